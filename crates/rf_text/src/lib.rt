@@ -1,0 +1,13 @@
+//! Texts, lists and positions: the values that every other crate passes around.
+//! Contracts see a `Bytes` and a `List` as a list, and `Names` as the list of its distinct texts.
+#![tactic(auto)]
+
+mod bytes;
+mod list;
+mod memory;
+mod span;
+
+pub use bytes::Bytes;
+pub use list::List;
+pub use memory::Memory;
+pub use span::{NameId, Span};
