@@ -1,0 +1,5 @@
+pub mod Words
+pub mod ClassFile
+pub mod FirstForm
+pub mod Seen
+pub mod Reading

@@ -1,0 +1,7 @@
+//! One refactoring, from the bytes of files to the bytes of files.
+#![tactic(auto)]
+
+mod class_file;
+mod first_form;
+
+pub use first_form::{FirstPath, first_path};
