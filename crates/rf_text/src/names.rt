@@ -22,6 +22,10 @@ impl Model for Names {
     ghost use Rattle.rf_text.specs.Names.{texts_of};
 
     ghost view = { λ names. texts_of names.texts.keys };
+
+    ghost use Rattle.std.specs.Prelude.{◌<◌, ◌^◌, length};
+
+    ghost invariant = { λ names. length names.texts.keys < 2 ^ 32 };
 }
 
 /// The place of the text among the keys.
@@ -55,14 +59,14 @@ impl Names {
 
     /// How many texts there are.
     pub fn len(&self) -> usize
-        ensures { result ≡ length self.now }
+        ensures len { result ≡ length self.now }
+        ensures small { result < 2 ^ 32 }
     {
         self.texts.len()
     }
 
     /// The place of the text, or `None` where it isn't there.
     pub fn find(&self, text: &[u8]) -> Option<NameId>
-        requires { length self.now < 2 ^ 32 }
         ensures { MatchOption result
             (¬ Contains self.now text.now)
             (λ place. slice_get self.now place.0 ≡ Some text.now) }
