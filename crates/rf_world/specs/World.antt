@@ -1,5 +1,5 @@
 -- The files of a world: a list of files, each with its root, its path below that root, and its bytes.
-use Rattle.std.specs.Prelude.{◌≡◌, ℕ, Bool, false, ◌&&◌, ◌⊎◌, List, [], ◌∷◌, ◌++◌, Option, Some, None, AllPairs, bytes_eq, filter, find, map, option_map, position, slice_set, take}
+use Rattle.std.specs.Prelude.{◌≡◌, ◌≢◌, ℕ, Bool, false, ◌&&◌, ◌⊎◌, List, [], ◌∷◌, ◌++◌, Option, Some, None, AllPairs, bytes_eq, filter, find, map, option_map, position, slice_set, take}
 
 -- a file: its root, its path, its bytes
 abbrev pub File : Type 0
@@ -20,6 +20,10 @@ content root path files = option_map (λ file. file.2) (find (is_at root path) f
 -- the paths of the files under this root, in the order of the files
 abbrev pub paths_under : List ℕ → List File → List (List ℕ)
 paths_under root files = map (λ file. file.1) (filter (λ file. bytes_eq file.0 root) files)
+
+-- no path stands twice
+abbrev pub AreDistinct : List (List ℕ) → Type 0
+AreDistinct paths = AllPairs (λ path other. path ≢ other) paths
 
 -- the files with this one in that place, or at the end where there is no place
 abbrev pub placed : Option ℕ → File → List File → List File

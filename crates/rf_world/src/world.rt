@@ -1,6 +1,6 @@
 ghost use Rattle.std.specs.Prelude.{◌≡◌, ℕ, Bool, List as Items, Option, Some, None, ◌⊎◌, IsTrue, IsErrOf, IfOk, OnOk, OnErr, IfSome, IsSome, option_map};
 ghost use Rattle.rf_world.specs.Fault.{HasCause};
-ghost use Rattle.rf_world.specs.World.{File, AreApart, MayHoldPrefix, content, paths_under, with_file};
+ghost use Rattle.rf_world.specs.World.{File, AreApart, AreDistinct, MayHoldPrefix, content, paths_under, with_file};
 
 use rf_text::{Bytes, List, Memory};
 use std::alloc::{AllocError, AllocFailed, Global};
@@ -67,6 +67,7 @@ pub trait World {
     /// The paths of the files under `root`, each once.
     fn list(&mut self, alloc: Global, root: &[u8]) -> Result<List<Bytes>, WorldErr>
         ensures ok { IfOk result (λ paths. IfSome (told self.old) (λ files. paths ≡ paths_under root.now files)) }
+        ensures once { IfOk result AreDistinct }
         ensures cause { HasCause WorldErr.Failed WorldErr.Memory (read_faults self.old) (read_faults self.new) result }
         ensures never { IsTrue (honest self.old) → IsErrOf result WorldErr.Failed → ⊥ }
 
