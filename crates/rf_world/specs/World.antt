@@ -11,7 +11,7 @@ is_at root path file = bytes_eq file.0 root && bytes_eq file.1 path
 
 -- no two files stand at one root and path
 abbrev pub AreApart : List File → Type 0
-AreApart files = AllPairs (λ file other. is_at file.0 file.1 other ≡ false) files
+AreApart files = AllPairs (λ file other. is_at other.0 other.1 file ≡ false) files
 
 -- the bytes of the file at this root and path, if there is one
 abbrev pub content : List ℕ → List ℕ → List File → Option (List ℕ)
