@@ -1,0 +1,2 @@
+pub mod JavaPathLemmas
+pub mod ReadLemmas

@@ -1,0 +1,6 @@
+pub mod Command
+pub mod JavaPath
+pub mod Put
+pub mod Reads
+pub mod Status
+pub mod Whole

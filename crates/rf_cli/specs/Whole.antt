@@ -1,0 +1,81 @@
+-- What a whole run does, status by status, over the files that the world tells and the bytes that the sink tells.
+use Rattle.std.specs.Prelude.{◌≡◌, ℕ, List, ◌⊎◌, Option, take}
+use Rattle.rf_world.specs.World.{File, with_file}
+use Rattle.rf_engine.specs.declared.first_form.FirstPath.{FirstPath}
+use Rattle.rf_engine.specs.declared.first_form.FirstPath.TheVariants.{Changed, Refused, NotYet}
+use Rattle.rf_engine.specs.FirstForm.{Form, answer_of}
+use Rattle.rf_cli.specs.declared.status.Status.{Status}
+use Rattle.rf_cli.specs.declared.status.Status.TheVariants as status
+use Rattle.rf_cli.specs.Command.{Apply, IsApply}
+use Rattle.rf_cli.specs.Put.{Puts}
+use Rattle.rf_cli.specs.Reads.{HoldsForm}
+
+-- the words are no command
+abbrev pub AreBadWords : List (List ℕ) → Type 0
+AreBadWords words = (command : Apply) → IsApply words command → ⊥
+
+-- the words are a command, and the files do not hold the first form for it
+pub record HasNoForm (words : List (List ℕ)) (files : List File) : Type 0 where
+  pub command : Apply
+  pub is_apply : IsApply words command
+  pub none : (path : List ℕ) (form : Form) → HoldsForm command files path form → ⊥
+
+-- the words are a command, the files hold the first form for it, and this is its answer
+pub record HasAnswer (words : List (List ℕ)) (files : List File) (command : Apply) (path : List ℕ) (answer : FirstPath) : Type 0 where
+  pub is_apply : IsApply words command
+  pub form : Form
+  pub holds : HoldsForm command files path form
+  pub answer_is : answer ≡ answer_of form
+
+-- status 0: the changed file stands under OUT, every other file as before, and the report was put
+pub record IsChanged (words : List (List ℕ)) (before after : List File) (taken : Option (List ℕ)) (put : Option (List ℕ)) : Type 0 where
+  pub command : Apply
+  pub path : List ℕ
+  pub bytes : List ℕ
+  pub report : List ℕ
+  pub answer : HasAnswer words before command path (Changed bytes report)
+  pub written : after ≡ with_file command.out path bytes before
+  pub line : Puts report taken put
+
+-- status 1: the line that names both fields was put
+pub record IsRefused (words : List (List ℕ)) (before : List File) (taken : Option (List ℕ)) (put : Option (List ℕ)) : Type 0 where
+  pub command : Apply
+  pub path : List ℕ
+  pub report : List ℕ
+  pub answer : HasAnswer words before command path (Refused report)
+  pub line : Puts report taken put
+
+-- the statuses that come of a failed call or of want of memory
+abbrev pub IsFault : Status → Type 0
+IsFault result = (result ≡ status.ReadFault) ⊎ ((result ≡ status.WriteFault) ⊎ (result ≡ status.Memory))
+
+-- the status of an answer
+abbrev pub status_of : FirstPath → Status
+status_of (Changed bytes report) = status.Ok
+status_of (Refused report) = status.Refused
+status_of NotYet = status.NotYet
+
+-- bad words, a form and no form each have their one status, which yields to a failed call and to want of memory alone
+pub record IsExact (words : List (List ℕ)) (files : List File) (result : Status) : Type 0 where
+  pub bad_words : AreBadWords words → (result ≡ status.BadWords) ⊎ IsFault result
+  pub form : (command : Apply) (path : List ℕ) (form : Form) → IsApply words command → HoldsForm command files path form → (result ≡ status_of (answer_of form)) ⊎ IsFault result
+  pub no_form : HasNoForm words files → (result ≡ status.NotYet) ⊎ IsFault result
+
+-- the changed file was written, and stands under OUT
+pub record IsWritten (words : List (List ℕ)) (before after : List File) : Type 0 where
+  pub command : Apply
+  pub path : List ℕ
+  pub bytes : List ℕ
+  pub report : List ℕ
+  pub answer : HasAnswer words before command path (Changed bytes report)
+  pub written : after ≡ with_file command.out path bytes before
+
+-- or it was being written: it holds a prefix of its bytes
+pub record IsPartlyWritten (words : List (List ℕ)) (before after : List File) : Type 0 where
+  pub command : Apply
+  pub path : List ℕ
+  pub bytes : List ℕ
+  pub report : List ℕ
+  pub answer : HasAnswer words before command path (Changed bytes report)
+  pub count : ℕ
+  pub written : after ≡ with_file command.out path (take count bytes) before

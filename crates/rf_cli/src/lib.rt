@@ -1,0 +1,10 @@
+//! The commands of the program: words to a status, over a world and a sink.
+#![tactic(auto)]
+
+mod command;
+mod decide;
+mod java_path;
+mod put;
+mod status;
+
+pub use status::Status;
