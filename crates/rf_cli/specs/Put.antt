@@ -1,9 +1,6 @@
 -- What a put of a line does.
-use Rattle.std.specs.Prelude.{◌≡◌, ℕ, List, ◌++◌, ◌⊎◌, Option, option_map, codes}
-use Rattle.rf_world.specs.Fault.{Rose}
+use Rattle.std.specs.Prelude.{◌≡◌, ℕ, List, ◌++◌, Option, option_map, codes}
 use Rattle.rf_engine.specs.FirstForm.{line_end}
-use Rattle.rf_cli.specs.declared.status.Status.{Status}
-use Rattle.rf_cli.specs.declared.status.Status.TheVariants.{WriteFault, Memory}
 
 -- the lines that depend on nothing
 abbrev pub bad_words_line : List ℕ
@@ -21,7 +18,3 @@ write_fault_line = codes "write fault" ++ line_end
 -- the line was put, whole
 abbrev pub Puts : List ℕ → Option (List ℕ) → Option (List ℕ) → Type 0
 Puts line before after = after ≡ option_map (λ taken. taken ++ line) before
-
--- the put failed, and the sink's count rose; or memory was wanted, and it is as before
-abbrev pub IsPutFault : ℕ → ℕ → Status → Type 0
-IsPutFault before now result = ((result ≡ WriteFault) × Rose before now) ⊎ ((result ≡ Memory) × (now ≡ before))

@@ -6,5 +6,7 @@ mod decide;
 mod java_path;
 mod put;
 mod status;
+mod whole_run;
 
 pub use status::Status;
+pub use whole_run::run;

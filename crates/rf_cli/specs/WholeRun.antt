@@ -1,6 +1,7 @@
 -- What a whole run does, status by status, over the files that the world tells and the bytes that the sink tells.
-use Rattle.std.specs.Prelude.{◌≡◌, ℕ, List, ◌⊎◌, Option, take}
-use Rattle.rf_world.specs.World.{File, with_file}
+use Rattle.std.specs.Prelude.{◌≡◌, ◌≢◌, ℕ, List, [], ◌⊎◌, Option, Some, None, IsSome, take}
+use Rattle.rf_world.specs.Fault.{Rose}
+use Rattle.rf_world.specs.World.{File, content, with_file}
 use Rattle.rf_engine.specs.declared.first_form.FirstPath.{FirstPath}
 use Rattle.rf_engine.specs.declared.first_form.FirstPath.TheVariants.{Changed, Refused, NotYet}
 use Rattle.rf_engine.specs.FirstForm.{Form, answer_of}
@@ -28,17 +29,17 @@ pub record HasAnswer (words : List (List ℕ)) (files : List File) (command : Ap
   pub answer_is : answer ≡ answer_of form
 
 -- status 0: the changed file stands under OUT, every other file as before, and the report was put
-pub record IsChanged (words : List (List ℕ)) (before after : List File) (taken : Option (List ℕ)) (put : Option (List ℕ)) : Type 0 where
+pub record IsChanged (words : List (List ℕ)) (before : List File) (after : Option (List File)) (taken put : Option (List ℕ)) : Type 0 where
   pub command : Apply
   pub path : List ℕ
   pub bytes : List ℕ
   pub report : List ℕ
   pub answer : HasAnswer words before command path (Changed bytes report)
-  pub written : after ≡ with_file command.out path bytes before
+  pub written : after ≡ Some (with_file command.out path bytes before)
   pub line : Puts report taken put
 
 -- status 1: the line that names both fields was put
-pub record IsRefused (words : List (List ℕ)) (before : List File) (taken : Option (List ℕ)) (put : Option (List ℕ)) : Type 0 where
+pub record IsRefused (words : List (List ℕ)) (before : List File) (taken put : Option (List ℕ)) : Type 0 where
   pub command : Apply
   pub path : List ℕ
   pub report : List ℕ
@@ -48,6 +49,10 @@ pub record IsRefused (words : List (List ℕ)) (before : List File) (taken : Opt
 -- the statuses that come of a failed call or of want of memory
 abbrev pub IsFault : Status → Type 0
 IsFault result = (result ≡ status.ReadFault) ⊎ ((result ≡ status.WriteFault) ⊎ (result ≡ status.Memory))
+
+-- the statuses after which files may have changed
+abbrev pub MayHaveWritten : Status → Type 0
+MayHaveWritten result = (result ≡ status.Ok) ⊎ ((result ≡ status.WriteFault) ⊎ (result ≡ status.Memory))
 
 -- the status of an answer
 abbrev pub status_of : FirstPath → Status
@@ -61,21 +66,25 @@ pub record IsExact (words : List (List ℕ)) (files : List File) (result : Statu
   pub form : (command : Apply) (path : List ℕ) (form : Form) → IsApply words command → HoldsForm command files path form → (result ≡ status_of (answer_of form)) ⊎ IsFault result
   pub no_form : HasNoForm words files → (result ≡ status.NotYet) ⊎ IsFault result
 
--- the changed file was written, and stands under OUT
-pub record IsWritten (words : List (List ℕ)) (before after : List File) : Type 0 where
+-- the changed file was written under OUT, up to this many of its bytes, and every other file is as before
+pub record IsWritten (words : List (List ℕ)) (before : List File) (after : Option (List File)) (count : ℕ) : Type 0 where
   pub command : Apply
   pub path : List ℕ
   pub bytes : List ℕ
   pub report : List ℕ
   pub answer : HasAnswer words before command path (Changed bytes report)
-  pub written : after ≡ with_file command.out path bytes before
+  pub written : after ≡ Some (with_file command.out path (take count bytes) before)
 
--- or it was being written: it holds a prefix of its bytes
-pub record IsPartlyWritten (words : List (List ℕ)) (before after : List File) : Type 0 where
-  pub command : Apply
-  pub path : List ℕ
-  pub bytes : List ℕ
-  pub report : List ℕ
-  pub answer : HasAnswer words before command path (Changed bytes report)
-  pub count : ℕ
-  pub written : after ≡ with_file command.out path (take count bytes) before
+-- whatever the status, the files are as before, or the one file that status 0 writes holds a prefix of its bytes
+abbrev pub TouchesOneFile : List (List ℕ) → List File → Option (List File) → Type 0
+TouchesOneFile words before after = (after ≡ Some before) ⊎ ((count : ℕ) × IsWritten words before after count)
+
+-- no count of a failed call changed
+pub record CountsAreSame (reads writes puts reads_after writes_after puts_after : ℕ) : Type 0 where
+  pub same_reads : reads_after ≡ reads
+  pub same_writes : writes_after ≡ writes
+  pub same_puts : puts_after ≡ puts
+
+-- the request that the words name is there
+abbrev pub HasRequest : List (List ℕ) → List File → Type 0
+HasRequest words files = (command : Apply) → IsApply words command → IsSome (content [] command.request files)
