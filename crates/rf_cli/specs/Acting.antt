@@ -18,14 +18,15 @@ pub record Ends (wanted result : Status) (text : List ℕ) (taken put : Option (
   pub line : result ≡ wanted → Puts text taken put
 
 -- the file was written, whole where the status is 0 or the put alone failed
-pub record Writes (out path bytes : List ℕ) (result : Status) (before after : Option (List File)) : Type 0 where
+pub record Writes (out path bytes : List ℕ) (result : Status) (writes writes_after : ℕ) (before after : Option (List File)) : Type 0 where
   pub whole : result ≡ status.Ok → after ≡ option_map (with_file out path bytes) before
+  pub whole_still : result ≡ status.WriteFault → (Rose writes writes_after → ⊥) → after ≡ option_map (with_file out path bytes) before
   pub part : (after ≡ before) ⊎ ((count : ℕ) × (after ≡ option_map (with_file out path (take count bytes)) before))
 
-abbrev pub Acts : List ℕ → List ℕ → FirstPath → Status → Option (List File) → Option (List File) → Option (List ℕ) → Option (List ℕ) → Type 0
-Acts out path NotYet result before after taken put = Ends status.NotYet result not_yet_line taken put × (after ≡ before)
-Acts out path (Refused report) result before after taken put = Ends status.Refused result report taken put × (after ≡ before)
-Acts out path (Changed bytes report) result before after taken put = Ends status.Ok result report taken put × Writes out path bytes result before after
+abbrev pub Acts : List ℕ → List ℕ → FirstPath → Status → ℕ → ℕ → Option (List File) → Option (List File) → Option (List ℕ) → Option (List ℕ) → Type 0
+Acts out path NotYet result writes writes_after before after taken put = Ends status.NotYet result not_yet_line taken put × (after ≡ before)
+Acts out path (Refused report) result writes writes_after before after taken put = Ends status.Refused result report taken put × (after ≡ before)
+Acts out path (Changed bytes report) result writes writes_after before after taken put = Ends status.Ok result report taken put × Writes out path bytes result writes writes_after before after
 
 -- a write fault comes only where one of the two counts rose, and but for it both stay
 pub record ActsByCounts (result : Status) (writes writes_after puts puts_after : ℕ) : Type 0 where

@@ -75,9 +75,34 @@ pub record IsWritten (words : List (List ℕ)) (before : List File) (after : Opt
   pub answer : HasAnswer words before command path (Changed bytes report)
   pub written : after ≡ Some (with_file command.out path (take count bytes) before)
 
+-- or whole
+pub record IsWholeWritten (words : List (List ℕ)) (before : List File) (after : Option (List File)) : Type 0 where
+  pub command : Apply
+  pub path : List ℕ
+  pub bytes : List ℕ
+  pub report : List ℕ
+  pub answer : HasAnswer words before command path (Changed bytes report)
+  pub written : after ≡ Some (with_file command.out path bytes before)
+
+-- the new name is taken by another field
+pub record IsTaken (words : List (List ℕ)) (before : List File) : Type 0 where
+  pub command : Apply
+  pub path : List ℕ
+  pub report : List ℕ
+  pub answer : HasAnswer words before command path (Refused report)
+
 -- whatever the status, the files are as before, or the one file that status 0 writes holds a prefix of its bytes
 abbrev pub TouchesOneFile : List (List ℕ) → List File → Option (List File) → Type 0
 TouchesOneFile words before after = (after ≡ Some before) ⊎ ((count : ℕ) × IsWritten words before after count)
+
+-- a status other than 8 and 9 had its cause, and the files are as before
+pub record HasOtherCause (words : List (List ℕ)) (before : List File) (after : Option (List File)) (reads reads_after : ℕ) : Type 0 where
+  pub same : after ≡ Some before
+  pub cause : AreBadWords words ⊎ (HasNoForm words before ⊎ (IsTaken words before ⊎ Rose reads reads_after))
+
+-- where the put alone failed: the changed file stands whole, or another status had its cause
+abbrev pub StandsWhole : List (List ℕ) → List File → Option (List File) → ℕ → ℕ → Type 0
+StandsWhole words before after reads reads_after = IsWholeWritten words before after ⊎ HasOtherCause words before after reads reads_after
 
 -- no count of a failed call changed
 pub record CountsAreSame (reads writes puts reads_after writes_after puts_after : ℕ) : Type 0 where

@@ -2,7 +2,7 @@ ghost use Rattle.std.specs.Prelude.{◌≡◌, ◌≢◌, ◌⊎◌, IfSome, IsT
 ghost use Rattle.rf_world.specs.Fault.{Rose};
 ghost use Rattle.rf_cli.specs.Acting.{Acts, ActsByCounts};
 ghost use Rattle.rf_cli.specs.Put.{Puts, bad_words_line, not_yet_line, read_fault_line};
-ghost use Rattle.rf_cli.specs.WholeRun.{AreBadWords, CountsAreSame, HasNoForm, HasRequest, IsChanged, IsExact, IsFault, IsRefused, MayHaveWritten, TouchesOneFile};
+ghost use Rattle.rf_cli.specs.WholeRun.{AreBadWords, CountsAreSame, HasNoForm, HasRequest, IsChanged, IsExact, IsFault, IsRefused, MayHaveWritten, StandsWhole, TouchesOneFile};
 
 use crate::Status;
 use crate::command::{ApplyWords, parse};
@@ -32,6 +32,10 @@ pub fn run<W: World, S: Sink>(alloc: Global, words: &[Bytes], world: &mut W, out
     ensures read_fault_put { result ≡ Status.ReadFault → Puts read_fault_line (S.told out.old) (S.told out.new) }
     ensures write_fault { result ≡ Status.WriteFault
         → Rose (W.write_faults world.old) (W.write_faults world.new) ⊎ Rose (S.faults out.old) (S.faults out.new) }
+
+    ensures write_fault_whole { result ≡ Status.WriteFault
+        → (Rose (W.write_faults world.old) (W.write_faults world.new) → ⊥) → IfSome (W.told world.old)
+            (λ files. StandsWhole words.now files (W.told world.new) (W.read_faults world.old) (W.read_faults world.new)) }
 
     // And that each comes whenever its cause holds and no call failed.
     ensures exact { IfSome (W.told world.old) (λ files. IsExact words.now files result) }
@@ -64,7 +68,7 @@ fn act<W: World, S: Sink>(
     out: &mut S,
 ) -> Status
     ensures acts { Acts command.now.out.now decision.path decision.answer result
-        (W.told world.old) (W.told world.new) (S.told out.old) (S.told out.new) }
+        (W.write_faults world.old) (W.write_faults world.new) (W.told world.old) (W.told world.new) (S.told out.old) (S.told out.new) }
     ensures causes { ActsByCounts result
         (W.write_faults world.old) (W.write_faults world.new) (S.faults out.old) (S.faults out.new) }
     ensures same_reads { W.read_faults world.new ≡ W.read_faults world.old }
