@@ -3,8 +3,10 @@
 #![tactic(auto)]
 
 mod mem_files;
+mod mem_world;
 mod sink;
 mod world;
 
+pub use mem_world::MemWorld;
 pub use sink::{Sink, SinkErr};
 pub use world::{World, WorldErr};
