@@ -2,11 +2,17 @@
 //! A call may fail only where a count of the object that was called rises with it.
 #![tactic(auto)]
 
+mod honest_sink;
+mod honest_world;
 mod mem_files;
+mod mem_sink;
 mod mem_world;
 mod sink;
 mod world;
 
+pub use honest_sink::HonestSink;
+pub use honest_world::HonestWorld;
+pub use mem_sink::MemSink;
 pub use mem_world::MemWorld;
 pub use sink::{Sink, SinkErr};
 pub use world::{World, WorldErr};
