@@ -80,9 +80,12 @@ impl World for HonestWorld {
     /// It fails exactly where the file is not there.
     fn read(&mut self, alloc: Global, root: &[u8], path: &[u8]) -> Result<Bytes, WorldErr>
         ensures ok { IfOk result (λ bytes. content root.now path.now (honest_files self.old) ≡ Some bytes) }
-        ensures failed { IsErrOf result WorldErr.Failed ↔ (content root.now path.now (honest_files self.old) ≡ None) }
-        ensures cause { HasCause WorldErr.Failed WorldErr.Memory (absent_reads self.old) (absent_reads self.new) result }
-        ensures counted { IsErrOf result WorldErr.Failed → absent_reads self.new ≡ next_count (absent_reads self.old) }
+        ensures failed { IsErrOf result WorldErr.Failed
+            ↔ (content root.now path.now (honest_files self.old) ≡ None) }
+        ensures cause { HasCause WorldErr.Failed WorldErr.Memory
+            (absent_reads self.old) (absent_reads self.new) result }
+        ensures counted { IsErrOf result WorldErr.Failed
+            → absent_reads self.new ≡ next_count (absent_reads self.old) }
 
         ensures same_files { honest_files self.new ≡ honest_files self.old }
     {
