@@ -163,13 +163,18 @@ impl World for MemWorld {
         ensures call { CountsOneCall self.old self.new }
         ensures same_reads { failed_reads self.new ≡ failed_reads self.old }
     {
-        if self.begin_call() {
-            let half = &bytes[..bytes.len() / 2];
-            mem_files::put(alloc, &mut self.files, root, path, half)?;
+        let fails = self.begin_call();
+        let stored = if fails {
+            &bytes[..bytes.len() / 2]
+        } else {
+            bytes
+        };
+        mem_files::put(alloc, &mut self.files, root, path, stored)?;
+        if fails {
             self.write_faults = self.write_faults.saturating_add(1);
             return Err(WorldErr::Failed);
         }
-        Ok(mem_files::put(alloc, &mut self.files, root, path, bytes)?)
+        Ok(())
     }
 
     ghost tells = { λ _ _. refl };
