@@ -1,4 +1,5 @@
 pub mod Words
+pub mod Scan
 pub mod ClassFile
 pub mod FirstForm
 pub mod Seen

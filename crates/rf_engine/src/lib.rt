@@ -3,5 +3,6 @@
 
 mod class_file;
 mod first_form;
+mod scan;
 
 pub use first_form::{FirstPath, first_path};
