@@ -5,9 +5,11 @@
 mod bytes;
 mod list;
 mod memory;
+mod names;
 mod span;
 
 pub use bytes::Bytes;
 pub use list::List;
 pub use memory::Memory;
+pub use names::{Names, names_are_distinct};
 pub use span::{NameId, Span};

@@ -1,0 +1,17 @@
+-- When a call may answer that it failed: each answer of that kind shows in a count of the object that was called.
+use Rattle.std.specs.Prelude.{◌≡◌, ℕ, ◌-◌, ◌^◌, ◌<◌, ◌≤◌, ◌⊎◌, Result, OnOk, IsErrOf}
+
+-- the last value of a count, at which it stays
+abbrev pub last_count : ℕ
+last_count = 2 ^ 64 - 1
+
+-- a count rose: it is greater than before, or stands at its last value
+abbrev pub Rose : ℕ → ℕ → Type 0
+Rose before now = (before < now) ⊎ (now ≡ last_count)
+
+-- a count never falls, it rose where the call failed, and it is as before where the call succeeded or wanted memory
+pub record HasCause {T E : Type 0} (fault memory : E) (before now : ℕ) (result : Result T E) : Type 0 where
+  pub later : before ≤ now
+  pub failed : IsErrOf result fault → Rose before now
+  pub kept : OnOk result (now ≡ before)
+  pub kept_memory : IsErrOf result memory → now ≡ before
