@@ -4,3 +4,5 @@ pub mod ClassFile
 pub mod FirstForm
 pub mod Seen
 pub mod Reading
+pub mod FormSeen
+pub mod Request

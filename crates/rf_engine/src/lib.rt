@@ -3,6 +3,9 @@
 
 mod class_file;
 mod first_form;
+mod form;
+mod report;
+mod request;
 mod scan;
 
 pub use first_form::{FirstPath, first_path};
