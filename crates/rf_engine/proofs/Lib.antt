@@ -1,2 +1,5 @@
 pub mod ScanLemmas
 pub mod RequestLemmas
+pub mod FieldNameLemmas
+pub mod FormLemmas
+pub mod AnswerLemmas

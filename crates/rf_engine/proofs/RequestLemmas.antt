@@ -1,8 +1,8 @@
 -- The one way to read a request.
-use Rattle.std.proofs.Common.{◌≡◌, ◌≢◌, ℕ, List, [], ◌∷◌, ◌++◌, ◌⊎◌, inl, inr, Option, Some, None, MatchOption, Bor, codes, refl, ap, sym, ◌∙◌, subst}
+use Rattle.std.proofs.Common.{◌≡◌, ◌≢◌, ℕ, List, [], ◌++◌, inl, inr, Option, Some, None, MatchOption, Bor, codes, refl, ap, sym, ◌∙◌, subst}
 use Rattle.std.proofs.lemmas.List.{append_cancel_left, append-nil, append_assoc}
 use Rattle.rf_engine.specs.FirstForm.{line_end}
-use Rattle.rf_engine.specs.Words.{is_letter_or_digit, IsName}
+use Rattle.rf_engine.specs.Words.{is_letter_or_digit}
 use Rattle.rf_engine.specs.Scan.{Stops, BeginsWithName}
 use Rattle.rf_engine.specs.declared.request.RequestParts.{RequestParts}
 use Rattle.rf_engine.specs.Request.{renames_field_of, old_to_new, IsLineEnd, AreNames, AreOnlyNames, IsRequest, IsOnlyRequest}
@@ -59,19 +59,19 @@ names_are_read text old rest after_to new ending begins to also ends = record {
     whole = begins.whole ∙ ap (λ left. old ++ left) (to ∙ ap (λ left. codes " to " ++ left) also.whole);
   };
   only = λ other_old other_new names.
-    ((old_is_one text old rest other_old other_new begins names).0, (new_is_one text old rest after_to new ending other_old other_new begins to also names).0);
+      ((old_is_one text old rest other_old other_new begins names).0, (new_is_one text old rest after_to new ending other_old other_new begins to also names).0);
 }
 
 -- the end of a request behind the class is of the names that the request is of
 names_of_request : (request class old new : List ℕ) → IsRequest request class old new → (rest : List ℕ) × (request ≡ renames_field_of class rest) × AreNames rest old new
 names_of_request request class old new is =
     elim is.line [
-      inl line ↦ (
+      | inl line ↦ (
         old_to_new old new,
         line,
         record { old_name = is.old_name; new_name = is.new_name; ending = []; ends = inl refl; whole = simp append-nil },
       )
-    | inr line ↦ (
+      | inr line ↦ (
         old_to_new old (new ++ line_end),
         line ∙ simp append_assoc,
         record { old_name = is.old_name; new_name = is.new_name; ending = line_end; ends = inr refl; whole = refl },
@@ -83,8 +83,8 @@ request_of_names request class rest old new is names = record {
   old_name = names.old_name;
   new_name = names.new_name;
   line = elim names.ends [
-    inl empty ↦ inl (is ∙ ap (renames_field_of class) (names.whole ∙ ap (λ ending. old_to_new old (new ++ ending)) empty ∙ simp append-nil))
-  | inr feed ↦ inr (is ∙ ap (renames_field_of class) (names.whole ∙ ap (λ ending. old_to_new old (new ++ ending)) feed) ∙ simp append_assoc)
+    | inl empty ↦ inl (is ∙ ap (renames_field_of class) (names.whole ∙ ap (λ ending. old_to_new old (new ++ ending)) empty ∙ simp append-nil))
+    | inr feed ↦ inr (is ∙ ap (renames_field_of class) (names.whole ∙ ap (λ ending. old_to_new old (new ++ ending)) feed) ∙ simp append_assoc)
   ];
 }
 

@@ -4,5 +4,6 @@ pub mod ClassFile
 pub mod FirstForm
 pub mod Seen
 pub mod Reading
-pub mod FormSeen
+pub mod Form
 pub mod Request
+pub mod FieldNames

@@ -1,9 +1,10 @@
 ghost use Rattle.std.specs.Prelude.{◌≡◌, IfOk};
 ghost use Rattle.std.specs.List.{flat_map};
 ghost use Rattle.rf_engine.specs.FirstForm.{nothing_changed, one_changed, name_taken};
-ghost use Rattle.rf_engine.specs.FormSeen.{form_seen};
+ghost use Rattle.rf_engine.specs.Form.{form_seen};
 
 use crate::form::FormParts;
+use crate::request::RequestParts;
 use rf_text::{Bytes, Memory};
 use std::alloc::Global;
 
@@ -29,18 +30,19 @@ pub(crate) fn nothing_changed(alloc: Global) -> Result<Bytes, Memory>
 pub(crate) fn one_changed(alloc: Global, form: &FormParts<'_>) -> Result<Bytes, Memory>
     ensures { IfOk result (λ text. text ≡ one_changed (form_seen form.now)) }
 {
-    let class = form.class.name;
+    let class = form.file.class.name;
+    let RequestParts { old, new } = form.request;
     joined(
         alloc,
         &[
             b"ok 1\nname field ",
             class,
             b".",
-            form.old,
+            old,
             b" ",
-            form.old,
+            old,
             b" ",
-            form.new,
+            new,
             b"\n",
         ],
     )
@@ -50,11 +52,10 @@ pub(crate) fn one_changed(alloc: Global, form: &FormParts<'_>) -> Result<Bytes, 
 pub(crate) fn name_taken(alloc: Global, form: &FormParts<'_>) -> Result<Bytes, Memory>
     ensures { IfOk result (λ text. text ≡ name_taken (form_seen form.now)) }
 {
-    let class = form.class.name;
+    let class = form.file.class.name;
+    let RequestParts { old, new } = form.request;
     joined(
         alloc,
-        &[
-            b"refused ", class, b".", form.old, b" ", class, b".", form.new, b"\n",
-        ],
+        &[b"refused ", class, b".", old, b" ", class, b".", new, b"\n"],
     )
 }
