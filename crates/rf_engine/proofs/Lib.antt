@@ -1,1 +1,4 @@
 pub mod ScanLemmas
+pub mod ReaderLemmas
+pub mod FieldLemmas
+pub mod ClassLemmas
