@@ -7,16 +7,16 @@ use Rattle.std.proofs.lemmas.List.Elements.{All-head, All-tail}
 use Rattle.rf_engine.specs.Words.{is_blank, AreBlanks, is_letter_or_digit, IsName}
 use Rattle.rf_engine.specs.Scan.{Stops, IsLongestFront, name_of, after_word}
 use Rattle.rf_engine.specs.ClassFile.{Value, Field, ClassFile, IsField, IsClassFile, field_bytes, class_bytes}
-use Rattle.rf_engine.specs.ClassReader.{and_then, ◌>>=◌, blanks_of, gap_of, field_of, BeginsWithFields, Head, head_of, End, end_before, end_of}
+use Rattle.rf_engine.specs.ClassReader.{and_then, blanks_of, before_word, parted_name, field_of, BeginsWithFields, Head, head_of, End, end_before, end_of}
 use Rattle.rf_engine.specs.Reading.{IsReading}
-use Rattle.rf_engine.proofs.ReaderLemmas.{front_of-is, name_of-Some, after_word-append, after_word-other, after_word-Some}
-use Rattle.rf_engine.proofs.FieldLemmas.{blanks_of-append, blanks_of-longest, gap_of-append, name_of-append, name_stops_blanks, blanks_end_name, Chained, chained, IsGap, gap_of-Some, field_of-append}
+use Rattle.rf_engine.proofs.PieceLemmas.{chained, blanks_of-is, blanks_of-longest, before_word-append, before_word-other, IsBeforeWord, before_word-Some, blanks_end_name, parted_name-append, parted_name-Some}
+use Rattle.rf_engine.proofs.FieldLemmas.{field_of-append}
 
 -- no field begins where the class ends
 no_field_at_end : (closing tail : List ℕ) → AreBlanks closing → field_of (closing ++ (codes "}" ++ tail)) ≡ None
 unfolding field_of and_then
 no_field_at_end closing tail blanks =
-    rw (blanks_of-append closing (codes "}" ++ tail) blanks refl, after_word-other 105 (110 ∷ 116 ∷ []) 125 tail refl)
+    rw (before_word-other 105 (110 ∷ 116 ∷ []) closing 125 tail blanks refl refl)
 
 -- a text begins with as many fields in one way only
 same_fields : (fields others : List Field) (rest left : List ℕ) → flat_map field_bytes fields ++ rest ≡ flat_map field_bytes others ++ left → All IsField fields → All IsField others → field_of rest ≡ None → field_of left ≡ None → (fields ≡ others) × (rest ≡ left)
@@ -33,13 +33,12 @@ same_fields (field ∷ fields) (other ∷ others) rest left same are others_are 
     let begins = field_of-append field (flat_map field_bytes fields ++ rest) (All-head IsField field fields are) in
     let other_begins = field_of-append other (flat_map field_bytes others ++ left) (All-head IsField other others others_are) in
     let text : field_bytes field ++ (flat_map field_bytes fields ++ rest) ≡ field_bytes other ++ (flat_map field_bytes others ++ left) =
-        sym (append_assoc (field_bytes field) (flat_map field_bytes fields) rest) ∙ same ∙ append_assoc (field_bytes other) (flat_map field_bytes others) left in
+    sym (append_assoc (field_bytes field) (flat_map field_bytes fields) rest) ∙ same ∙ append_assoc (field_bytes other) (flat_map field_bytes others) left in
     let heads = some_pair_parts field other (flat_map field_bytes fields ++ rest) (flat_map field_bytes others ++ left) (sym begins ∙ ap field_of text ∙ other_begins) in
     let fields_here : field ≡ other = heads.0 in
     let further = same_fields fields others rest left heads.1 (All-tail IsField field fields are) (All-tail IsField other others others_are) stops left_stops in
     let fields_same : fields ≡ others = further.0 in
     (cc, further.1)
-
 
 -- a class up to its fields, whole
 head_bytes : Head → List ℕ
@@ -60,35 +59,29 @@ head_of-is : (text : List ℕ) (head : Head) (rest : List ℕ) → IsHeadAt text
 unfolding head_of and_then
 head_of-is text head rest at =
     let behind_name = head.opening ++ (codes "{" ++ rest) in
-    let before = blanks_of-append head.before (codes "class" ++ (head.gap ++ (head.name ++ behind_name))) at.is_head.before refl in
-    let class = after_word-append (codes "class") (head.gap ++ (head.name ++ behind_name)) in
-    let gap = gap_of-append head.gap (head.name ++ behind_name) at.is_head.parted at.is_head.gap (name_stops_blanks head.name behind_name at.is_head.name) in
-    let name = name_of-append head.name behind_name at.is_head.name (blanks_end_name head.opening (codes "{" ++ rest) at.is_head.opening refl) in
-    let opening = blanks_of-append head.opening (codes "{" ++ rest) at.is_head.opening refl in
-    rw (at.whole, before, class, gap, name, opening, after_word-append (codes "{") rest)
+    let class = before_word-append (codes "class") head.before (head.gap ++ (head.name ++ behind_name)) at.is_head.before refl in
+    let name = parted_name-append head.gap head.name behind_name at.is_head.parted at.is_head.gap at.is_head.name (blanks_end_name head.opening (codes "{" ++ rest) at.is_head.opening refl) in
+    let brace = before_word-append (codes "{") head.opening rest at.is_head.opening refl in
+    rw (at.whole, class, name, brace)
 
-head_whole : (head : Head) (text from_class behind_class from_name behind_name from_brace rest : List ℕ) → text ≡ head.before ++ from_class → from_class ≡ codes "class" ++ behind_class → behind_class ≡ head.gap ++ from_name → from_name ≡ head.name ++ behind_name → behind_name ≡ head.opening ++ from_brace → from_brace ≡ codes "{" ++ rest → text ≡ head.before ++ (codes "class" ++ (head.gap ++ (head.name ++ (head.opening ++ (codes "{" ++ rest)))))
-head_whole head text from_class behind_class from_name behind_name from_brace rest e1 e2 e3 e4 e5 e6 = rw (e1, e2, e3, e4, e5, e6)
+head_whole : (head : Head) (text behind_class behind_name rest : List ℕ) → text ≡ head.before ++ (codes "class" ++ behind_class) → behind_class ≡ head.gap ++ (head.name ++ behind_name) → behind_name ≡ head.opening ++ (codes "{" ++ rest) → text ≡ head.before ++ (codes "class" ++ (head.gap ++ (head.name ++ (head.opening ++ (codes "{" ++ rest)))))
+head_whole head text behind_class behind_name rest e1 e2 e3 = rw (e1, e2, e3)
 
 head_of-Some : (text : List ℕ) (cut : Head × List ℕ) → head_of text ≡ Some cut → IsHeadAt text cut.0 cut.1
 unfolding head_of
 head_of-Some text cut gives =
-    let before = blanks_of-longest text in
-    let class = chained (after_word (codes "class") (blanks_of text).1) _ cut gives in
-    let gap = chained (gap_of class.value) _ cut class.next_gives in
-    let name = chained (name_of gap.value.1) _ cut gap.next_gives in
-    let brace = chained (after_word (codes "{") (blanks_of name.value.1).1) _ cut name.next_gives in
-    let opening = blanks_of-longest name.value.1 in
-    let is_gap = gap_of-Some class.value gap.value gap.first_gives in
-    let begins = name_of-Some gap.value.1 name.value name.first_gives in
-    let head : Head = record { before = (blanks_of text).0; gap = gap.value.0; name = name.value.0; opening = (blanks_of name.value.1).0 } in
-    let same : (head, brace.value) ≡ cut = cc brace.next_gives in
+    let class = chained (before_word (codes "class") text) _ cut gives in
+    let name = chained (parted_name class.value.1) _ cut class.next_gives in
+    let brace = chained (before_word (codes "{") name.value.2) _ cut name.next_gives in
+    let before = before_word-Some (codes "class") text class.value class.first_gives in
+    let named = parted_name-Some class.value.1 name.value name.first_gives in
+    let opening = before_word-Some (codes "{") name.value.2 brace.value brace.first_gives in
+    let head : Head = record { before = class.value.0; gap = name.value.0; name = name.value.1; opening = brace.value.0 } in
+    let same : (head, brace.value.1) ≡ cut = cc brace.next_gives in
     subst (λ (found : Head × List ℕ). IsHeadAt text found.0 found.1) same
     (record {
-      whole = head_whole head text (blanks_of text).1 class.value gap.value.1 name.value.1 (blanks_of name.value.1).1 brace.value
-        before.whole (after_word-Some (codes "class") (blanks_of text).1 class.value class.first_gives) is_gap.whole begins.whole opening.whole
-        (after_word-Some (codes "{") (blanks_of name.value.1).1 brace.value brace.first_gives);
-      is_head = record { before = before.passes; gap = is_gap.blanks; parted = is_gap.parted; name = begins.is_name; opening = opening.passes };
+      whole = head_whole head text class.value.1 name.value.2 brace.value.1 before.whole named.whole opening.whole;
+      is_head = record { before = before.blanks; gap = named.blanks; parted = named.parted; name = named.is_name; opening = opening.blanks };
     })
 
 -- a class from behind its fields, whole
@@ -100,23 +93,27 @@ record IsEnd (text : List ℕ) (end : End) : Type 0 where
 end_of-is : (text : List ℕ) (end : End) → IsEnd text end → end_of text ≡ Some end
 unfolding end_of and_then
 end_of-is text end is =
-    let closing = blanks_of-append end.closing (codes "}" ++ end.tail) is.closing refl in
-    let tail : blanks_of end.tail ≡ (end.tail, []) = ap blanks_of (sym (append-nil end.tail)) ∙ blanks_of-append end.tail [] is.tail tt in
-    rw (is.whole, closing, after_word-append (codes "}") end.tail, tail)
+    let brace = before_word-append (codes "}") end.closing end.tail is.closing refl in
+    let tail : blanks_of end.tail ≡ (end.tail, []) = blanks_of-is end.tail end.tail [] (record { whole = sym (append-nil end.tail); passes = is.tail; stops = tt }) in
+    rw (is.whole, brace, tail)
 
-end_here : (text from_brace tail rest : List ℕ) (found end : End) → IsLongestFront is_blank text found.closing from_brace → from_brace ≡ codes "}" ++ tail → IsLongestFront is_blank tail found.tail rest → end_before rest found ≡ Some end → IsEnd text end
-end_here text from_brace tail [] found end closing brace blanks gives =
+end_here : (text tail rest : List ℕ) (found end : End) → IsBeforeWord (codes "}") text found.closing tail → IsLongestFront is_blank tail found.tail rest → end_before rest found ≡ Some end → IsEnd text end
+end_here text tail [] found end brace blanks gives =
     let same : found ≡ end = cc in
     let ends : tail ≡ found.tail = blanks.whole ∙ append-nil found.tail in
-    subst (λ (e : End). IsEnd text e) same (record { whole = closing.whole ∙ ap (λ t. found.closing ++ t) (brace ∙ ap (λ t. codes "}" ++ t) ends); closing = closing.passes; tail = blanks.passes })
-end_here text from_brace tail (byte ∷ bytes) found end closing brace blanks gives = cc
+    subst (λ (e : End). IsEnd text e) same (record {
+      whole = brace.whole ∙ ap (λ t. found.closing ++ (codes "}" ++ t)) ends;
+      closing = brace.blanks;
+      tail = blanks.passes;
+    })
+end_here text tail (byte ∷ bytes) found end brace blanks gives = cc
 
 end_of-Some : (text : List ℕ) (end : End) → end_of text ≡ Some end → IsEnd text end
 unfolding end_of
 end_of-Some text end gives =
-    let brace = chained (after_word (codes "}") (blanks_of text).1) _ end gives in
-    end_here text (blanks_of text).1 brace.value (blanks_of brace.value).1 (record { closing = (blanks_of text).0; tail = (blanks_of brace.value).0 }) end
-    (blanks_of-longest text) (after_word-Some (codes "}") (blanks_of text).1 brace.value brace.first_gives) (blanks_of-longest brace.value) brace.next_gives
+    let brace = chained (before_word (codes "}") text) _ end gives in
+    end_here text brace.value.1 (blanks_of brace.value.1).1 (record { closing = brace.value.0; tail = (blanks_of brace.value.1).0 }) end
+    (before_word-Some (codes "}") text brace.value brace.first_gives) (blanks_of-longest brace.value.1) brace.next_gives
 
 abbrev head_in : ClassFile → Head
 head_in file = record { before = file.before; gap = file.gap; name = file.name; opening = file.opening }
@@ -196,6 +193,6 @@ class_found text head from_fields fields rest end found begins ends =
       };
       bytes_are = class_whole head fields end text from_fields rest first.whole begins.whole last.whole;
       only = λ other is bytes.
-        let reads = reads_as text head from_fields fields rest found begins other is bytes in
-        class_of_parts head fields end other reads.heads reads.fields_same (same_Some end (end_in other) (sym ends ∙ reads.end));
+          let reads = reads_as text head from_fields fields rest found begins other is bytes in
+          class_of_parts head fields end other reads.heads reads.fields_same (same_Some end (end_in other) (sym ends ∙ reads.end));
     }

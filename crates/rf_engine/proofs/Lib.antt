@@ -1,4 +1,4 @@
 pub mod ScanLemmas
-pub mod ReaderLemmas
+pub mod PieceLemmas
 pub mod FieldLemmas
 pub mod ClassLemmas

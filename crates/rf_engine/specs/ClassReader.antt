@@ -16,38 +16,44 @@ o >>= f = and_then o f
 unfoldable pub blanks_of : List ℕ → List ℕ × List ℕ
 blanks_of text = front_of is_blank text
 
--- at least one blank
+-- the blanks before a word, and the rest behind it
+unfoldable pub before_word : List ℕ → List ℕ → Option (List ℕ × List ℕ)
+before_word word text = do
+  rest ← after_word word (blanks_of text).1
+  Some ((blanks_of text).0, rest)
+
 abbrev pub unless_empty : List ℕ → List ℕ → Option (List ℕ × List ℕ)
 unless_empty [] rest = None
 unless_empty (byte ∷ bytes) rest = Some (byte ∷ bytes, rest)
 
+-- at least one blank
 unfoldable pub gap_of : List ℕ → Option (List ℕ × List ℕ)
 gap_of text = unless_empty (blanks_of text).0 (blanks_of text).1
 
+-- a name with a gap before it: the gap, the name and the rest
+unfoldable pub parted_name : List ℕ → Option (List ℕ × List ℕ × List ℕ)
+parted_name text = do
+  gap ← gap_of text
+  name ← name_of gap.1
+  Some (gap.0, name.0, name.1)
+
 -- an initializer, where `=` follows
-unfoldable pub value_after : List ℕ → Option (List ℕ) → Option (Option Value × List ℕ)
-value_after text None = Some (None, text)
-value_after text (Some equals) = do
-  name ← name_of (blanks_of equals).1
-  Some (Some (record { before = (blanks_of text).0; gap = (blanks_of equals).0; name = name.0 }), name.1)
+unfoldable pub value_behind : List ℕ → Option (List ℕ × List ℕ) → Option (Option Value × List ℕ)
+value_behind text None = Some (None, text)
+value_behind text (Some equals) = do
+  name ← name_of (blanks_of equals.1).1
+  Some (Some (record { before = equals.0; gap = (blanks_of equals.1).0; name = name.0 }), name.1)
 
 unfoldable pub value_of : List ℕ → Option (Option Value × List ℕ)
-value_of text = value_after text (after_word (codes "=") (blanks_of text).1)
+value_of text = value_behind text (before_word (codes "=") text)
 
 unfoldable pub field_of : List ℕ → Option (Field × List ℕ)
 field_of text = do
-  int ← after_word (codes "int") (blanks_of text).1
-  gap ← gap_of int
-  name ← name_of gap.1
-  value ← value_of name.1
-  rest ← after_word (codes ";") (blanks_of value.1).1
-  Some (record {
-    before = (blanks_of text).0;
-    gap = gap.0;
-    name = name.0;
-    value = value.0;
-    after = (blanks_of value.1).0;
-  }, rest)
+  int ← before_word (codes "int") text
+  name ← parted_name int.1
+  value ← value_of name.2
+  end ← before_word (codes ";") value.1
+  Some (record { before = int.0; gap = name.0; name = name.1; value = value.0; after = end.0 }, end.1)
 
 -- as many fields as the text begins with
 pub record BeginsWithFields (text : List ℕ) (fields : List Field) (rest : List ℕ) : Type 0 where
@@ -64,11 +70,10 @@ pub record Head : Type 0 where
 
 unfoldable pub head_of : List ℕ → Option (Head × List ℕ)
 head_of text = do
-  class ← after_word (codes "class") (blanks_of text).1
-  gap ← gap_of class
-  name ← name_of gap.1
-  rest ← after_word (codes "{") (blanks_of name.1).1
-  Some (record { before = (blanks_of text).0; gap = gap.0; name = name.0; opening = (blanks_of name.1).0 }, rest)
+  class ← before_word (codes "class") text
+  name ← parted_name class.1
+  brace ← before_word (codes "{") name.2
+  Some (record { before = class.0; gap = name.0; name = name.1; opening = brace.0 }, brace.1)
 
 -- a class from behind its fields: `}`, and blanks up to the end
 pub record End : Type 0 where
@@ -81,5 +86,5 @@ end_before (byte ∷ bytes) end = None
 
 unfoldable pub end_of : List ℕ → Option End
 end_of text = do
-  brace ← after_word (codes "}") (blanks_of text).1
-  end_before (blanks_of brace).1 (record { closing = (blanks_of text).0; tail = (blanks_of brace).0 })
+  brace ← before_word (codes "}") text
+  end_before (blanks_of brace.1).1 (record { closing = brace.0; tail = (blanks_of brace.1).0 })

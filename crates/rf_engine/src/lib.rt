@@ -2,6 +2,7 @@
 #![tactic(auto)]
 
 mod class_file;
+mod field;
 mod first_form;
 mod scan;
 
