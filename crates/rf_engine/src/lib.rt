@@ -2,6 +2,7 @@
 #![tactic(auto)]
 
 mod class_file;
+mod field;
 mod field_names;
 mod first_form;
 mod form;
