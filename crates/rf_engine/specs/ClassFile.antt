@@ -1,5 +1,5 @@
 -- The file of one class of int fields, with the blanks between its tokens (JLS 8.1, 8.3; blanks 3.6).
-use Rattle.std.specs.Prelude.{◌≡◌, ◌≢◌, ℕ, List, [], ◌∷◌, ◌++◌, Option, Some, None, option_map, map, All, IfSome, if◌then◌else◌, codes}
+use Rattle.std.specs.Prelude.{◌≢◌, ℕ, List, [], ◌++◌, Option, Some, None, option_map, map, All, IfSome, if◌then◌else◌, codes}
 use Rattle.std.specs.List.{flat_map}
 use Rattle.std.specs.Str.{bytes_eq}
 use Rattle.rf_engine.specs.Words.{AreBlanks, IsName}

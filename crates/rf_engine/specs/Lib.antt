@@ -1,5 +1,10 @@
 pub mod Words
+pub mod Scan
 pub mod ClassFile
 pub mod FirstForm
+pub mod ClassReader
 pub mod Seen
 pub mod Reading
+pub mod Form
+pub mod Request
+pub mod FieldNames

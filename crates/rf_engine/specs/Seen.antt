@@ -1,9 +1,16 @@
 -- The parts that the program has cut a file into, as the texts that they are.
-use Rattle.std.specs.Prelude.{option_map, map}
+use Rattle.std.specs.Prelude.{ℕ, List, Option, option_map, map}
 use Rattle.rf_engine.specs.ClassFile.{Value, Field, ClassFile}
 use Rattle.rf_engine.specs.declared.class_file.ValueParts.{ValueParts}
 use Rattle.rf_engine.specs.declared.class_file.FieldParts.{FieldParts}
 use Rattle.rf_engine.specs.declared.class_file.ClassParts.{ClassParts}
+use Rattle.rf_engine.specs.ClassReader.{Head, End}
+use Rattle.rf_engine.specs.declared.class_file.HeadCut.{HeadCut}
+use Rattle.rf_engine.specs.declared.class_file.EndParts.{EndParts}
+use Rattle.rf_engine.specs.declared.field.FieldCut.{FieldCut}
+use Rattle.rf_engine.specs.declared.field.NameCut.{NameCut}
+use Rattle.rf_engine.specs.declared.field.ValueCut.{ValueCut}
+use Rattle.rf_engine.specs.declared.scan.Cut.{Cut}
 
 abbrev pub value_seen : ValueParts → Value
 value_seen parts = record { before = parts.before.now; gap = parts.gap.now; name = parts.name.now }
@@ -27,3 +34,22 @@ class_seen parts = record {
   closing = parts.closing.now;
   tail = parts.tail.now;
 }
+
+-- what was read, and the rest
+abbrev pub cut_seen : Cut → List ℕ × List ℕ
+cut_seen cut = (cut.front.now, cut.rest.now)
+
+abbrev pub name_cut_seen : NameCut → List ℕ × List ℕ × List ℕ
+name_cut_seen cut = (cut.gap.now, cut.name.now, cut.rest.now)
+
+abbrev pub value_cut_seen : ValueCut → Option Value × List ℕ
+value_cut_seen cut = (option_map value_seen cut.value, cut.rest.now)
+
+abbrev pub field_cut_seen : FieldCut → Field × List ℕ
+field_cut_seen cut = (field_seen cut.field, cut.rest.now)
+
+abbrev pub head_cut_seen : HeadCut → Head × List ℕ
+head_cut_seen cut = (record { before = cut.before.now; gap = cut.gap.now; name = cut.name.now; opening = cut.opening.now }, cut.rest.now)
+
+abbrev pub end_seen : EndParts → End
+end_seen parts = record { closing = parts.closing.now; tail = parts.tail.now }

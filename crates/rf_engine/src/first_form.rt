@@ -1,6 +1,14 @@
-ghost use Rattle.std.specs.Prelude.{IfOk};
-ghost use Rattle.rf_engine.specs.FirstForm.{IsAnswer};
+ghost use Rattle.std.specs.Prelude.{◌≡◌, IfOk};
+ghost use Rattle.rf_engine.specs.ClassFile.{class_bytes, names_of};
+ghost use Rattle.rf_engine.specs.FirstForm.{answer_of, IsAnswer};
+ghost use Rattle.rf_engine.specs.Form.{form_seen};
+ghost use Rattle.rf_engine.specs.Seen.{class_seen};
 
+use crate::class_file::write_renamed;
+use crate::field_names::is_declared;
+use crate::form::{FormParts, read_form};
+use crate::report::{name_taken, nothing_changed, one_changed};
+use crate::request::RequestParts;
 use rf_text::{Bytes, Memory};
 use std::alloc::Global;
 
@@ -15,6 +23,27 @@ pub enum FirstPath {
     NotYet,
 }
 
+/// The answer to a request of the first form, of which `file` is the bytes of the file.
+fn answer(alloc: Global, file: &[u8], form: &FormParts<'_>) -> Result<FirstPath, Memory>
+    requires bytes { file.now ≡ class_bytes (class_seen form.now.file.class) }
+    requires names { form.now.file.names ≡ names_of (class_seen form.now.file.class) }
+    ensures { IfOk result (λ answer. answer ≡ answer_of (form_seen form.now)) }
+{
+    let RequestParts { old, new } = form.request;
+    if new == old {
+        let bytes = Bytes::from_slice(alloc, file)?;
+        let report = nothing_changed(alloc)?;
+        return Ok(FirstPath::Changed { bytes, report });
+    }
+    if is_declared(&form.file.names, new) {
+        let report = name_taken(alloc, form)?;
+        return Ok(FirstPath::Refused { report });
+    }
+    let bytes = write_renamed(alloc, &form.file.class, old, new)?;
+    let report = one_changed(alloc, form)?;
+    Ok(FirstPath::Changed { bytes, report })
+}
+
 /// Renames a field of a class of int fields, where the file at `path` and the request are of that form.
 /// All three are bytes.
 pub fn first_path(
@@ -25,5 +54,8 @@ pub fn first_path(
 ) -> Result<FirstPath, Memory>
     ensures { IfOk result (IsAnswer path.now file.now request.now) }
 {
-    Err(Memory)
+    match read_form(alloc, path, file, request)? {
+        Some(form) => answer(alloc, file, &form),
+        None => Ok(FirstPath::NotYet),
+    }
 }

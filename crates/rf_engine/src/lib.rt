@@ -2,6 +2,12 @@
 #![tactic(auto)]
 
 mod class_file;
+mod field;
+mod field_names;
 mod first_form;
+mod form;
+mod report;
+mod request;
+mod scan;
 
 pub use first_form::{FirstPath, first_path};

@@ -1,0 +1,112 @@
+ghost use Rattle.std.specs.Prelude.{◌≡◌, option_map, codes};
+ghost use Rattle.rf_engine.specs.ClassReader.{before_word, gap_of, parted_name, value_of, field_of};
+ghost use Rattle.rf_engine.specs.Seen.{cut_seen, name_cut_seen, value_cut_seen, field_cut_seen};
+
+use crate::class_file::{FieldParts, ValueParts};
+use crate::scan::{Cut, after, blanks, name};
+
+/// A name with the gap before it, and the rest of the text behind it.
+#[derive(Clone, Copy, Debug)]
+pub(crate) struct NameCut<'a> {
+    pub gap: &'a [u8],
+    pub name: &'a [u8],
+    pub rest: &'a [u8],
+}
+
+/// A field, and the rest of the text behind it.
+#[derive(Clone, Copy, Debug)]
+pub(crate) struct FieldCut<'a> {
+    pub field: FieldParts<'a>,
+    pub rest: &'a [u8],
+}
+
+/// The initializer of a field, if it has one, and the rest of the text behind it.
+#[derive(Clone, Copy, Debug)]
+struct ValueCut<'a> {
+    value: Option<ValueParts<'a>>,
+    rest: &'a [u8],
+}
+
+/// Cuts off `word` and the blanks before it.
+#[tactic(auto, using(crate::proofs::PieceLemmas::scans), unfolding(crate::specs::ClassReader::before_word, crate::specs::ClassReader::and_then))]
+pub(crate) fn before_word<'a>(text: &'a [u8], word: &[u8]) -> Option<Cut<'a>>
+    ensures { option_map cut_seen result ≡ before_word word.now text.now }
+{
+    let before = blanks(text);
+    let rest = after(before.rest, word)?;
+    Some(Cut {
+        front: before.front,
+        rest,
+    })
+}
+
+#[tactic(auto, using(crate::proofs::PieceLemmas::scans), unfolding(crate::specs::ClassReader::gap_of))]
+fn gap(text: &[u8]) -> Option<Cut<'_>>
+    ensures { option_map cut_seen result ≡ gap_of text.now }
+{
+    let cut = blanks(text);
+    if cut.front.is_empty() {
+        None
+    } else {
+        Some(cut)
+    }
+}
+
+/// Cuts off a name and the gap before it.
+#[tactic(auto, using(crate::proofs::PieceLemmas::scans), unfolding(crate::specs::ClassReader::parted_name, crate::specs::ClassReader::and_then))]
+pub(crate) fn parted_name(text: &[u8]) -> Option<NameCut<'_>>
+    ensures { option_map name_cut_seen result ≡ parted_name text.now }
+{
+    let gap = gap(text)?;
+    let name = name(gap.rest)?;
+    Some(NameCut {
+        gap: gap.front,
+        name: name.front,
+        rest: name.rest,
+    })
+}
+
+#[tactic(auto, using(crate::proofs::PieceLemmas::scans), unfolding(crate::specs::ClassReader::value_of, crate::specs::ClassReader::value_behind, crate::specs::ClassReader::and_then))]
+fn read_value(text: &[u8]) -> Option<ValueCut<'_>>
+    ensures { option_map value_cut_seen result ≡ value_of text.now }
+{
+    let Some(equals) = before_word(text, b"=") else {
+        return Some(ValueCut {
+            value: None,
+            rest: text,
+        });
+    };
+    let gap = blanks(equals.rest);
+    let name = name(gap.rest)?;
+    let value = ValueParts {
+        before: equals.front,
+        gap: gap.front,
+        name: name.front,
+    };
+    Some(ValueCut {
+        value: Some(value),
+        rest: name.rest,
+    })
+}
+
+/// Cuts off the field that the text begins with.
+#[tactic(auto, unfolding(crate::specs::ClassReader::field_of, crate::specs::ClassReader::and_then))]
+pub(crate) fn read_field(text: &[u8]) -> Option<FieldCut<'_>>
+    ensures { option_map field_cut_seen result ≡ field_of text.now }
+{
+    let int = before_word(text, b"int")?;
+    let name = parted_name(int.rest)?;
+    let value = read_value(name.rest)?;
+    let end = before_word(value.rest, b";")?;
+    let field = FieldParts {
+        before: int.front,
+        gap: name.gap,
+        name: name.name,
+        value: value.value,
+        after: end.front,
+    };
+    Some(FieldCut {
+        field,
+        rest: end.rest,
+    })
+}
