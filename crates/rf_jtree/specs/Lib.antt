@@ -1,1 +1,9 @@
+pub mod Digits
+pub mod Escapes
+pub mod Identifiers
+pub mod Numbers
+pub mod Operators
+pub mod Quoted
+pub mod Tokens
+pub mod Trivia
 pub mod Words

@@ -32,7 +32,7 @@ macro_rules! are_found {
 }
 
 /// The place of the first of `words` that is `bytes`.
-fn place(words: &[&[u8]], bytes: &[u8]) -> Option<usize>
+pub(crate) fn place(words: &[&[u8]], bytes: &[u8]) -> Option<usize>
     ensures at { result ≡ position (λ word. bytes_eq word.now bytes.now) words.now }
     ensures within { IfSome result (λ n. n < length words.now) }
 {

@@ -1,0 +1,28 @@
+-- The list of separators and operators and the places of its texts.
+use Rattle.std.proofs.Common.{◌≡◌, ℕ, List, Option, Some, None, map, slice_get, refl, ap, ◌∙◌, arith}
+use Rattle.rf_jtree.specs.declared.operators.Op.{Op}
+use Rattle.rf_jtree.specs.Operators.{OPERATORS, operator_of, operator_at}
+use Rattle.rf_jtree.proofs.TableLemmas.{place_in, numbered, at_place, stands_at_place}
+
+table : map (place_in OPERATORS) OPERATORS ≡ numbered 0 OPERATORS
+unfolding OPERATORS
+table = refl
+
+-- each text of the list is the operator of its place
+pub operator_of-word : (n : ℕ) (word : List ℕ) → slice_get OPERATORS n ≡ Some word → operator_of word ≡ Some (record { 0 = n })
+unfolding operator_of
+operator_of-word n word at = ap operator_at (at_place (place_in OPERATORS) OPERATORS 0 n word table at ∙ ap Some (omega arith))
+
+number : Option Op → Option ℕ
+number None = None
+number (Some k) = Some k.0
+
+of_place : (found : Option ℕ) (n : ℕ) → operator_at found ≡ Some (record { 0 = n }) → found ≡ Some n
+unfolding number
+of_place None n h = ap number h
+of_place (Some m) n h = ap number h
+
+-- and a text that is an operator stands in the list at its place
+pub slice_get-operator : (n : ℕ) (text : List ℕ) → operator_of text ≡ Some (record { 0 = n }) → slice_get OPERATORS n ≡ Some text
+unfolding operator_of
+slice_get-operator n text is = stands_at_place OPERATORS n text (of_place (place_in OPERATORS text) n is)
