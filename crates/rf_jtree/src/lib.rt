@@ -1,10 +1,18 @@
 //! Tokens and trees of Java: what a token list of a text is, and what a tree that fits is, with the tables of words.
 #![tactic(auto)]
 
+mod decls;
+mod exprs;
+mod names;
 mod operators;
+mod stmts;
 mod tokens;
 mod words;
 
+pub use decls::{Body, CtorCall, Import, Member, Param, Params, Ret, TypeDecl, Unit};
+pub use exprs::{Args, Braces, Expr, Init};
+pub use names::{Dims, Many, Mod, Name, Strs, TypeBase, TypeUse};
 pub use operators::{Op, operator, operators_are_found};
+pub use stmts::{Block, Catch, ForFirst, Group, Local, Stmt, Var};
 pub use tokens::{Tok, TokKind, Toks};
 pub use words::{Kw, keyword, keywords_are_found};
