@@ -1,0 +1,9 @@
+class Counter {
+    int start;
+    int step;
+    int value = start;
+    int last = value;
+
+    int lowest = start;
+    int highest = value;
+}
