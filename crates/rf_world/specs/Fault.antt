@@ -1,9 +1,13 @@
 -- When a call may answer that it failed: each answer of that kind shows in a count of the object that was called.
-use Rattle.std.specs.Prelude.{◌≡◌, ℕ, ◌-◌, ◌^◌, ◌<◌, ◌≤◌, ◌⊎◌, Result, OnOk, IsErrOf}
+use Rattle.std.specs.Prelude.{◌≡◌, ℕ, ◌+◌, ◌-◌, ◌^◌, ◌<◌, ◌≤◌, ◌⊎◌, Result, OnOk, IsErrOf, min}
 
 -- the last value of a count, at which it stays
 abbrev pub last_count : ℕ
 last_count = 2 ^ 64 - 1
+
+-- a count after one more
+abbrev pub next_count : ℕ → ℕ
+next_count count = min (count + 1) last_count
 
 -- a count rose: it is greater than before, or stands at its last value
 abbrev pub Rose : ℕ → ℕ → Type 0

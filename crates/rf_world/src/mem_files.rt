@@ -1,6 +1,6 @@
 //! A list of files in memory, which the worlds in memory share.
 ghost use Rattle.std.specs.Prelude.{◌≡◌, ◌<◌, IfOk, OnOk, OnErr, length, position};
-ghost use Rattle.std.specs.Option.{ForSome};
+ghost use Rattle.std.specs.Option.{ForSome, option_copied};
 ghost use Rattle.rf_world.specs.World.{content, is_at, paths_under, placed, with_file};
 
 use rf_text::{Bytes, List, Memory};
@@ -22,22 +22,19 @@ pub(crate) fn paths(
     Ok(paths)
 }
 
-pub(crate) fn bytes(
-    alloc: Global,
-    files: &List<(Bytes, Bytes, Bytes)>,
+/// The bytes of the file at this root and path.
+pub(crate) fn find<'a>(
+    files: &'a List<(Bytes, Bytes, Bytes)>,
     root: &[u8],
     path: &[u8],
-) -> Result<Option<Bytes>, Memory>
-    ensures { IfOk result (λ found. found ≡ content root.now path.now files.now) }
+) -> Option<&'a Bytes>
+    ensures { option_copied result ≡ content root.now path.now files.now }
 {
-    match files
+    files
         .as_slice()
         .iter()
         .find(|file| stands_at(file, root, path))
-    {
-        None => Ok(None),
-        Some(file) => Ok(Some(Bytes::from_slice(alloc, file.2.as_slice())?)),
-    }
+        .map(|file| &file.2)
 }
 
 /// Adds the file or replaces its bytes.

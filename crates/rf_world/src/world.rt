@@ -66,9 +66,11 @@ pub trait World {
 
     /// The paths of the files under `root`, each once.
     fn list(&mut self, alloc: Global, root: &[u8]) -> Result<List<Bytes>, WorldErr>
-        ensures ok { IfOk result (λ paths. IfSome (told self.old) (λ files. paths ≡ paths_under root.now files)) }
+        ensures ok { IfOk result (λ paths.
+            IfSome (told self.old) (λ files. paths ≡ paths_under root.now files)) }
         ensures once { IfOk result AreDistinct }
-        ensures cause { HasCause WorldErr.Failed WorldErr.Memory (read_faults self.old) (read_faults self.new) result }
+        ensures cause { HasCause WorldErr.Failed WorldErr.Memory
+            (read_faults self.old) (read_faults self.new) result }
         ensures never { IsTrue (honest self.old) → IsErrOf result WorldErr.Failed → ⊥ }
 
         ensures same_files { told self.new ≡ told self.old }
@@ -77,8 +79,10 @@ pub trait World {
 
     /// The bytes of one file. A file that is not there is `Failed`.
     fn read(&mut self, alloc: Global, root: &[u8], path: &[u8]) -> Result<Bytes, WorldErr>
-        ensures ok { IfOk result (λ bytes. IfSome (told self.old) (λ files. content root.now path.now files ≡ Some bytes)) }
-        ensures cause { HasCause WorldErr.Failed WorldErr.Memory (read_faults self.old) (read_faults self.new) result }
+        ensures ok { IfOk result (λ bytes.
+            IfSome (told self.old) (λ files. content root.now path.now files ≡ Some bytes)) }
+        ensures cause { HasCause WorldErr.Failed WorldErr.Memory
+            (read_faults self.old) (read_faults self.new) result }
         ensures absent { IsTrue (honest self.old) → IsErrOf result WorldErr.Failed
             → IfSome (told self.old) (λ files. content root.now path.now files ≡ None) }
 
@@ -98,7 +102,8 @@ pub trait World {
             (told self.new ≡ option_map (with_file root.now path.now bytes.now) (told self.old)) }
         ensures err { OnErr result
             (MayHoldPrefix root.now path.now bytes.now (told self.old) (told self.new)) }
-        ensures cause { HasCause WorldErr.Failed WorldErr.Memory (write_faults self.old) (write_faults self.new) result }
+        ensures cause { HasCause WorldErr.Failed WorldErr.Memory
+            (write_faults self.old) (write_faults self.new) result }
 
         ensures same_read_faults { read_faults self.new ≡ read_faults self.old }
         ensures same_honest { honest self.new ≡ honest self.old };

@@ -1,0 +1,1 @@
+class A{int f;int h=f;}

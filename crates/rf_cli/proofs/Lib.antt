@@ -1,0 +1,3 @@
+pub mod JavaPathLemmas
+pub mod ReadLemmas
+pub mod WholeRunLemmas

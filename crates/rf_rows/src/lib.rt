@@ -1,0 +1,9 @@
+//! Tests of whole runs: worked examples over worlds and sinks in memory, honest ones, and those of the system.
+#![tactic(auto)]
+
+#[cfg(test)]
+mod example;
+#[cfg(test)]
+mod first_form;
+#[cfg(test)]
+mod real_files;

@@ -1,0 +1,22 @@
+use crate::example::{APPLY, words};
+use rf_cli::run;
+use rf_world::{MemSink, RealWorld};
+use rf_text::List;
+use std::test::Fail;
+use std::fs;
+
+#[test]
+fn a_field_is_renamed_in_real_files(rt: HostRuntime) -> Result<(), Fail> {
+    fs::create_dir_all(&rt, "src")?;
+    fs::write(&rt, "src/A.java", "class A{int f;int h=f;}")?;
+    fs::write(&rt, "req", "rename field A.f to g\n")?;
+    let mut world = RealWorld::new(&rt);
+    let mut sink = MemSink::new(rt.alloc(), List::new(rt.alloc()));
+    let words = words(rt.alloc(), APPLY)?;
+    let status = run(rt.alloc(), words.as_slice(), &mut world, &mut sink);
+    assert_eq!(rt; status.code(), 0);
+    assert!(rt; sink.bytes().as_slice() == b"ok 1\nname field A.f f g\n".as_slice());
+    let written = fs::read_to_string(&rt, "out/A.java")?;
+    assert_eq!(rt; written.as_str(), "class A{int g;int h=g;}");
+    Ok(())
+}

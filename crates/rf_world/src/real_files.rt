@@ -1,0 +1,56 @@
+//! The files of the system, read and written whole.
+
+use crate::WorldErr;
+use crate::real_paths::{fault, full_path};
+use rf_text::Bytes;
+use std::alloc::Global;
+use std::io::{ErrorKind, Read, Write};
+use std::rt::Files;
+use std::{fs, io};
+
+/// The most bytes of a file that is read.
+const MOST_BYTES: usize = 1_073_741_824;
+
+/// The bytes of the file, up to where no byte comes.
+pub(crate) fn read<R: Files>(
+    rt: &R,
+    alloc: Global,
+    root: &[u8],
+    path: &[u8],
+) -> Result<Bytes, WorldErr> {
+    let path = full_path(alloc, root, path)?;
+    let file = fs::open(rt, path.as_str()).map_err(fault)?;
+    let mut bytes = Vec::new(alloc);
+    file.take(MOST_BYTES as u64 + 1)
+        .read_to_end(&mut bytes)
+        .map_err(fault)?;
+    if bytes.len() > MOST_BYTES {
+        return Err(WorldErr::Failed);
+    }
+    Ok(Bytes::from_vec(bytes))
+}
+
+/// Makes the file or replaces its bytes, and makes the folders that it needs.
+pub(crate) fn write<R: Files>(
+    rt: &R,
+    alloc: Global,
+    root: &[u8],
+    path: &[u8],
+    bytes: &[u8],
+) -> Result<(), WorldErr> {
+    let path = full_path(alloc, root, path)?;
+    let mut file = create(rt, path.as_str()).map_err(fault)?;
+    file.write_all(bytes).map_err(fault)
+}
+
+fn create<R: Files>(rt: &R, path: &str) -> io::Result<R::File> {
+    match fs::create(rt, path) {
+        Err(error) if error.kind() == ErrorKind::NotFound => {
+            if let Some((folder, _)) = path.rsplit_once('/') {
+                fs::create_dir_all(rt, folder)?;
+            }
+            fs::create(rt, path)
+        }
+        created => created,
+    }
+}
