@@ -79,6 +79,11 @@ fn each_request_has_its_answer(rt: HostRuntime) -> Result<(), Fail> {
         not_yet(b"A.java", b"class A{int f;}", b"rename field A.f to int"),
         not_yet(b"A.java", b"class A{int f;}", b"rename field A.f to true"),
         not_yet(b"A.java", b"class A{int f;}", b"rename field A.f to g\xff"),
+        not_yet(
+            b"A.java",
+            b"class A{int \xff;}",
+            b"rename field A.\xff to g",
+        ),
         not_yet(b"A.java", b"class A{int f;}", b""),
         not_yet(b"A.java", b"class A{}", b"rename field A.f to g"),
     ];
