@@ -1,20 +1,20 @@
 -- Classes: what is read is a class, and each class is read.
-use Rattle.std.proofs.Common.{◌≡◌, ◌≢◌, ℕ, List, [], ◌∷◌, ◌++◌, Option, Some, None, refl, ap, sym, ◌∙◌, subst, codes, append_assoc}
+use Rattle.std.proofs.Common.{◌≡◌, ◌≢◌, ℕ, List, [], ◌∷◌, ◌++◌, Some, None, refl, ap, sym, ◌∙◌, subst, codes, append_assoc}
 use Rattle.std.specs.List.{flat_map, All}
 use Rattle.std.proofs.lemmas.List.{append-nil}
 use Rattle.std.proofs.lemmas.Option.{some_pair_parts, same_Some}
 use Rattle.std.proofs.lemmas.List.Elements.{All-head, All-tail}
-use Rattle.rf_engine.specs.Words.{is_blank, AreBlanks, is_letter_or_digit, IsName}
-use Rattle.rf_engine.specs.Scan.{Stops, IsLongestFront, name_of, after_word}
-use Rattle.rf_engine.specs.ClassFile.{Value, Field, ClassFile, IsField, IsClassFile, field_bytes, class_bytes}
-use Rattle.rf_engine.specs.ClassReader.{and_then, blanks_of, before_word, parted_name, field_of, BeginsWithFields, Head, head_of, End, end_before, end_of}
+use Rattle.rf_engine.specs.Words.{is_blank, AreBlanks, IsName}
+use Rattle.rf_engine.specs.Scan.{IsLongestFront}
+use Rattle.rf_engine.specs.ClassFile.{Field, ClassFile, IsField, IsClassFile, field_bytes, class_bytes}
+use Rattle.rf_engine.specs.ClassReader.{blanks_of, before_word, parted_name, field_of, BeginsWithFields, Head, head_of, End, end_before, end_of}
 use Rattle.rf_engine.specs.Reading.{IsReading}
 use Rattle.rf_engine.proofs.PieceLemmas.{chained, blanks_of-is, blanks_of-longest, before_word-append, before_word-other, IsBeforeWord, before_word-Some, blanks_end_name, parted_name-append, parted_name-Some}
 use Rattle.rf_engine.proofs.FieldLemmas.{field_of-append}
 
 -- no field begins where the class ends
 no_field_at_end : (closing tail : List ℕ) → AreBlanks closing → field_of (closing ++ (codes "}" ++ tail)) ≡ None
-unfolding field_of and_then
+unfolding field_of
 no_field_at_end closing tail blanks =
     rw (before_word-other 105 (110 ∷ 116 ∷ []) closing 125 tail blanks refl refl)
 
@@ -41,9 +41,6 @@ same_fields (field ∷ fields) (other ∷ others) rest left same are others_are 
     (cc, further.1)
 
 -- a class up to its fields, whole
-head_bytes : Head → List ℕ
-head_bytes head = head.before ++ (codes "class" ++ (head.gap ++ (head.name ++ (head.opening ++ codes "{"))))
-
 record IsHead (head : Head) : Type 0 where
   pub before : AreBlanks head.before
   pub gap : AreBlanks head.gap
@@ -56,7 +53,7 @@ record IsHeadAt (text : List ℕ) (head : Head) (rest : List ℕ) : Type 0 where
   pub is_head : IsHead head
 
 head_of-is : (text : List ℕ) (head : Head) (rest : List ℕ) → IsHeadAt text head rest → head_of text ≡ Some (head, rest)
-unfolding head_of and_then
+unfolding head_of
 head_of-is text head rest at =
     let behind_name = head.opening ++ (codes "{" ++ rest) in
     let class = before_word-append (codes "class") head.before (head.gap ++ (head.name ++ behind_name)) at.is_head.before refl in
@@ -91,7 +88,7 @@ record IsEnd (text : List ℕ) (end : End) : Type 0 where
   pub tail : AreBlanks end.tail
 
 end_of-is : (text : List ℕ) (end : End) → IsEnd text end → end_of text ≡ Some end
-unfolding end_of and_then
+unfolding end_of
 end_of-is text end is =
     let brace = before_word-append (codes "}") end.closing end.tail is.closing refl in
     let tail : blanks_of end.tail ≡ (end.tail, []) = blanks_of-is end.tail end.tail [] (record { whole = sym (append-nil end.tail); passes = is.tail; stops = tt }) in

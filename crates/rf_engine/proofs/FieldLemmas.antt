@@ -1,5 +1,5 @@
 -- Fields: what is read is a field, and each field is read.
-use Rattle.std.proofs.Common.{◌≡◌, ℕ, ◌+◌, ◌<◌, List, [], ◌∷◌, ◌++◌, length, Option, Some, None, All, refl, ap, ◌∙◌, subst, codes, IfSome, arith, append_assoc, length-append}
+use Rattle.std.proofs.Common.{◌≡◌, ℕ, ◌<◌, List, [], ◌∷◌, ◌++◌, length, Option, Some, None, All, refl, ap, ◌∙◌, subst, codes, IfSome, arith, append_assoc, length-append}
 use Rattle.std.specs.List.{flat_map}
 use Rattle.std.proofs.lemmas.List.{append-nil}
 use Rattle.std.proofs.lemmas.List.Concat.{flat_map-append}
@@ -7,7 +7,7 @@ use Rattle.std.proofs.lemmas.List.Elements.{All-nil, All-push}
 use Rattle.rf_engine.specs.Words.{AreBlanks, is_letter_or_digit}
 use Rattle.rf_engine.specs.Scan.{Stops, name_of}
 use Rattle.rf_engine.specs.ClassFile.{Value, Field, IsValue, IsField, value_bytes, field_bytes}
-use Rattle.rf_engine.specs.ClassReader.{and_then, blanks_of, before_word, parted_name, value_of, value_behind, field_of}
+use Rattle.rf_engine.specs.ClassReader.{blanks_of, before_word, parted_name, value_of, value_behind, field_of}
 use Rattle.rf_engine.proofs.ScanLemmas.{name_of-Some}
 use Rattle.rf_engine.proofs.PieceLemmas.{chained, blanks_of-append, blanks_of-longest, before_word-append, before_word-other, before_word-Some, name_of-append, name_stops_blanks, blanks_end_name, parted_name-append, parted_name-Some}
 
@@ -20,7 +20,7 @@ value_ends_name (Some value) after rest is are =
 
 -- an initializer is read, and none where there is none
 value_of-append : (value : Option Value) (after rest : List ℕ) → IfSome value IsValue → AreBlanks after → value_of (value_bytes value ++ (after ++ (codes ";" ++ rest))) ≡ Some (value, after ++ (codes ";" ++ rest))
-unfolding value_of value_behind and_then
+unfolding value_of value_behind
 value_of-append None after rest is are = rw (before_word-other 61 [] after 59 rest are refl refl)
 value_of-append (Some value) after rest is are =
     let end = after ++ (codes ";" ++ rest) in
@@ -32,7 +32,7 @@ value_of-append (Some value) after rest is are =
 
 -- a field is read, whatever follows it
 pub field_of-append : (field : Field) (rest : List ℕ) → IsField field → field_of (field_bytes field ++ rest) ≡ Some (field, rest)
-unfolding field_of and_then
+unfolding field_of
 field_of-append field rest is =
     let behind_name = value_bytes field.value ++ (field.after ++ (codes ";" ++ rest)) in
     let regrouped : field_bytes field ++ rest ≡ field.before ++ (codes "int" ++ (field.gap ++ (field.name ++ behind_name))) = simp append_assoc in

@@ -15,7 +15,7 @@ use Rattle.rf_engine.specs.declared.class_file.FieldParts.{FieldParts}
 use Rattle.rf_engine.specs.Seen.{field_seen}
 
 -- a text is found in a list exactly where it is there
-pub list_any-Contains : (text : List ℕ) (texts : List (List ℕ)) → list_any (bytes_eq text) texts ≡ true → Contains texts text
+list_any-Contains : (text : List ℕ) (texts : List (List ℕ)) → list_any (bytes_eq text) texts ≡ true → Contains texts text
 list_any-Contains text texts found = Contains-from_any (λ x y. (bytes_eq-Decides x y).0) text texts found
 
 pub Contains-list_any : (text : List ℕ) (texts : List (List ℕ)) → Contains texts text → list_any (bytes_eq text) texts ≡ true
@@ -32,17 +32,17 @@ list_any-missing text texts missing =
 abbrev pub names_seen : List FieldParts → List (List ℕ)
 names_seen fields = map (λ field. field.name) (map field_seen fields)
 
-pub names_seen-more : (fields : List FieldParts) (i : ℕ) (d : FieldParts) → i < length fields → names_seen (take (i + 1) fields) ≡ names_seen (take i fields) ++ (get_or fields i d).name.now ∷ []
+names_seen-more : (fields : List FieldParts) (i : ℕ) (d : FieldParts) → i < length fields → names_seen (take (i + 1) fields) ≡ names_seen (take i fields) ++ (get_or fields i d).name.now ∷ []
 names_seen-more fields i d within =
     ap names_seen (take_more fields i d within) ∙ simp map-append
 
-pub length-names_seen : (fields : List FieldParts) → length (names_seen fields) ≡ length fields
+length-names_seen : (fields : List FieldParts) → length (names_seen fields) ≡ length fields
 length-names_seen fields = simp length-map
 
-pub take-names_seen : (i : ℕ) (fields : List FieldParts) → names_seen (take i fields) ≡ take i (names_seen fields)
+take-names_seen : (i : ℕ) (fields : List FieldParts) → names_seen (take i fields) ≡ take i (names_seen fields)
 take-names_seen i fields = sym (take-map (λ field. field.name) i (map field_seen fields) ∙ ap (map (λ field. field.name)) (take-map field_seen i fields))
 
-pub get_or-names_seen : (fields : List FieldParts) (i : ℕ) (d : FieldParts) (e : List ℕ) → i < length fields → get_or (names_seen fields) i e ≡ (get_or fields i d).name.now
+get_or-names_seen : (fields : List FieldParts) (i : ℕ) (d : FieldParts) (e : List ℕ) → i < length fields → get_or (names_seen fields) i e ≡ (get_or fields i d).name.now
 get_or-names_seen fields i d e within =
     let within_seen : i < length (map field_seen fields) = omega (arith, length-map fields field_seen) in
     get_or-map (λ field. field.name) (map field_seen fields) i (field_seen d) e within_seen ∙ ap (λ field. field.name) (get_or-map field_seen fields i d (field_seen d) within)
@@ -55,11 +55,8 @@ contains_or_not texts text =
       | inr missed ↦ inr (λ there. true≢false (sym (Contains-list_any text texts there) ∙ missed))
     ]
 
-Contains-slice_get : (texts : List (List ℕ)) (place : ℕ) (text : List ℕ) → slice_get texts place ≡ Some text → Contains texts text
-Contains-slice_get texts place text at = (place, slice_get_within texts place text at, get_or_from_slice_get texts place text text at)
-
 -- a text that got an old place was there, and one that got a new place was not
-pub interned_before : (old : List (List ℕ)) (text : List ℕ) (place : ℕ) (new : List (List ℕ)) → Interned old text place new → place < length old → Contains old text
+interned_before : (old : List (List ℕ)) (text : List ℕ) (place : ℕ) (new : List (List ℕ)) → Interned old text place new → place < length old → Contains old text
 interned_before old text place new interned before =
     elim (contains_or_not old text) [
       | inl there ↦ there
@@ -68,18 +65,18 @@ interned_before old text place new interned before =
           (place, before, sym (get_or_append_left old (text ∷ []) text place before) ∙ get_or_from_slice_get (old ++ text ∷ []) place text text at_place)
     ]
 
-pub interned_behind : (old : List (List ℕ)) (text : List ℕ) (place : ℕ) (new : List (List ℕ)) → Interned old text place new → length old ≤ place → ¬ Contains old text
+interned_behind : (old : List (List ℕ)) (text : List ℕ) (place : ℕ) (new : List (List ℕ)) → Interned old text place new → length old ≤ place → ¬ Contains old text
 interned_behind old text place new interned behind there =
     let at_place = subst (λ texts. slice_get texts place ≡ Some text) (interned.known there) interned.stands in
     let within = slice_get_within old place text at_place in
     absurd (omega arith)
 
 -- distinct texts stay so with one more that is not among them
-pub distinct_push : (texts : List (List ℕ)) (text : List ℕ) → AllPairs (λ a b. a ≢ b) texts → ¬ Contains texts text → AllPairs (λ a b. a ≢ b) (texts ++ text ∷ [])
+distinct_push : (texts : List (List ℕ)) (text : List ℕ) → AllPairs (λ a b. a ≢ b) texts → ¬ Contains texts text → AllPairs (λ a b. a ≢ b) (texts ++ text ∷ [])
 distinct_push texts text distinct missing = all_pairs_push (λ a b. a ≢ b) texts text distinct (λ k d within same. missing (subst (Contains texts) same (Contains-get_or texts k d within)))
 
 -- texts are not distinct where one stands before itself
-pub not_distinct : (texts : List (List ℕ)) (i : ℕ) (text : List ℕ) → i < length texts → get_or texts i text ≡ text → Contains (take i texts) text → ¬ AllPairs (λ a b. a ≢ b) texts
+not_distinct : (texts : List (List ℕ)) (i : ℕ) (text : List ℕ) → i < length texts → get_or texts i text ≡ text → Contains (take i texts) text → ¬ AllPairs (λ a b. a ≢ b) texts
 not_distinct texts i text within at before distinct =
     let below : before.0 < i = omega (arith, before.1, length-take i texts) in
     distinct before.0 i text below within (sym (get_or-take i texts before.0 text below) ∙ before.2 ∙ sym at)

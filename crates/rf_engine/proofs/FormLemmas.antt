@@ -1,5 +1,5 @@
 -- The one way to read path, file and request as the first form.
-use Rattle.std.proofs.Common.{◌≡◌, ◌≢◌, ℕ, ◌<◌, ◌≤◌, List, [], ◌∷◌, ◌++◌, length, map, IfSome, All, AllPairs, Contains, codes, ap, sym, ◌∙◌, subst, arith}
+use Rattle.std.proofs.Common.{◌≡◌, ◌≢◌, ℕ, ◌-◌, ◌^◌, ◌<◌, ◌≤◌, List, [], ◌∷◌, ◌++◌, length, map, IfSome, All, AllPairs, Contains, codes, ap, sym, ◌∙◌, subst, arith}
 use Rattle.std.specs.List.{flat_map}
 use Rattle.std.proofs.lemmas.List.{append_cancel_left, length-append, length-map, get_or-map}
 use Rattle.std.proofs.lemmas.List.Elements.{All-map, All-weaker, All-contains}
@@ -30,7 +30,7 @@ fields_count (field ∷ fields) = omega (arith, field_counts field, fields_count
 class_counts : (file : ClassFile) → length file.fields ≤ length (class_bytes file)
 class_counts file = simp length-append (omega (arith, fields_count file.fields))
 
-pub few_fields : (bytes : List ℕ) (parts : ClassParts) → IsReading bytes (class_seen parts) → length bytes ≤ 1048576 → length parts.fields < 4294967295
+pub few_fields : (bytes : List ℕ) (parts : ClassParts) → IsReading bytes (class_seen parts) → length bytes ≤ 1048576 → length parts.fields < 2 ^ 32 - 1
 few_fields bytes parts reading small =
     omega (arith, class_counts (class_seen parts), ap length reading.bytes_are, length-map parts.fields field_seen)
 
@@ -103,7 +103,7 @@ module _ (path file request : List ℕ) where
   request_of_form parts form reading is =
       subst (λ class. IsRequest request class.name form.old form.new) (file_is_one parts form reading is) (form_request form is)
 
-  pub names_are_one : (parts : FileParts) (form : Form) (old new : List ℕ) → IsFileReading parts path file → IsOnlyRequest request parts.class.name.now old new → IsForm form path file request → (form.old ≡ old) × (form.new ≡ new)
+  names_are_one : (parts : FileParts) (form : Form) (old new : List ℕ) → IsFileReading parts path file → IsOnlyRequest request parts.class.name.now old new → IsForm form path file request → (form.old ≡ old) × (form.new ≡ new)
   names_are_one parts form old new reading asked is = asked.only form.old form.new (request_of_form parts form reading is)
 
   pub target_of_form : (parts : FileParts) (form : Form) (old new : List ℕ) → IsFileReading parts path file → IsOnlyRequest request parts.class.name.now old new → IsForm form path file request → Contains parts.names old

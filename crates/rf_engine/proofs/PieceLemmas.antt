@@ -1,10 +1,10 @@
 -- The pieces of a class between its blanks: what is read is there, and what is there is read.
-use Rattle.std.proofs.Common.{◌≡◌, ◌≢◌, ℕ, Bool, true, false, ◌==◌, List, [], ◌∷◌, ◌++◌, Option, Some, None, refl, ap, ◌∙◌, subst, arith, append_assoc}
+use Rattle.std.proofs.Common.{◌≡◌, ◌≢◌, ℕ, true, false, ◌==◌, List, [], ◌∷◌, ◌++◌, Option, Some, None, refl, ap, ◌∙◌, subst, arith}
 use Rattle.std.proofs.lemmas.Bool.Decides.{nat_tests}
 use Rattle.std.proofs.lemmas.List.Elements.{All-head}
 use Rattle.rf_engine.specs.Words.{is_blank, AreBlanks, is_letter, is_letter_or_digit, IsName}
 use Rattle.rf_engine.specs.Scan.{Stops, IsLongestFront, name_of, after_word}
-use Rattle.rf_engine.specs.ClassReader.{and_then, ◌>>=◌, blanks_of, before_word, unless_empty, gap_of, parted_name}
+use Rattle.rf_engine.specs.ClassReader.{◌>>=◌, blanks_of, before_word, unless_empty, gap_of, parted_name}
 use Rattle.rf_engine.proofs.ScanLemmas.{front_of-longest, front_of-is, name_of-is, name_of-Some, after_word-append, after_word-other, after_word-Some, after_word-is, after_word-None, name_of-None}
 
 -- the two steps of a chain that gives something
@@ -14,7 +14,6 @@ pub record Chained {A B : Type 0} (first : Option A) (next : A → Option B) (gi
   pub next_gives : next value ≡ Some given
 
 pub chained : {A B : Type 0} (first : Option A) (next : A → Option B) (given : B) → (first >>= next) ≡ Some given → Chained first next given
-unfolding and_then
 chained None next given gives = cc
 chained (Some value) next given gives = record { value = value; first_gives = refl; next_gives = gives }
 
@@ -32,11 +31,11 @@ blanks_of-append blanks rest are stops = blanks_of-is (blanks ++ rest) blanks re
 
 -- a word with blanks before it
 pub before_word-append : (word blanks rest : List ℕ) → AreBlanks blanks → Stops is_blank (word ++ rest) → before_word word (blanks ++ (word ++ rest)) ≡ Some (blanks, rest)
-unfolding before_word and_then
+unfolding before_word
 before_word-append word blanks rest are stops = rw (blanks_of-append blanks (word ++ rest) are stops, after_word-append word rest)
 
 pub before_word-other : (first : ℕ) (word blanks : List ℕ) (other : ℕ) (rest : List ℕ) → AreBlanks blanks → is_blank other ≡ false → (other == first) ≡ false → before_word (first ∷ word) (blanks ++ (other ∷ rest)) ≡ None
-unfolding before_word and_then
+unfolding before_word
 before_word-other first word blanks other rest are stops differs = rw (blanks_of-append blanks (other ∷ rest) are stops, after_word-other first word other rest differs)
 
 pub record IsBeforeWord (word text front rest : List ℕ) : Type 0 where
@@ -85,7 +84,7 @@ gap_of-append [] rest parted are stops = absurd (parted refl)
 gap_of-append (byte ∷ bytes) rest parted are stops = rw (blanks_of-append (byte ∷ bytes) rest are stops)
 
 pub parted_name-append : (gap name rest : List ℕ) → gap ≢ [] → AreBlanks gap → IsName name → Stops is_letter_or_digit rest → parted_name (gap ++ (name ++ rest)) ≡ Some (gap, name, rest)
-unfolding parted_name and_then
+unfolding parted_name
 parted_name-append gap name rest parted are is stops =
     rw (gap_of-append gap (name ++ rest) parted are (name_stops_blanks name rest is), name_of-append name rest is stops)
 

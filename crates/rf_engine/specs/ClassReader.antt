@@ -1,17 +1,13 @@
 -- What the program makes of a text, part by part: each function gives what it has read and the rest, or `None`.
-use Rattle.std.specs.Prelude.{◌≡◌, ℕ, List, [], ◌∷◌, ◌++◌, Option, Some, None, All, codes}
+use Rattle.std.specs.Prelude.{◌≡◌, ℕ, List, [], ◌∷◌, ◌++◌, Option, Some, None, option_and_then, All, codes}
 use Rattle.std.specs.List.{flat_map}
 use Rattle.rf_engine.specs.Words.{is_blank}
 use Rattle.rf_engine.specs.Scan.{front_of, name_of, after_word}
 use Rattle.rf_engine.specs.ClassFile.{Value, Field, IsField, field_bytes}
 
-unfoldable pub and_then : {A B : Type 0} → Option A → (A → Option B) → Option B
-and_then None f = None
-and_then (Some x) f = f x
-
 infixl 10 ◌>>=◌
 abbrev pub ◌>>=◌ : {A B : Type 0} → Option A → (A → Option B) → Option B
-o >>= f = and_then o f
+option >>= next = option_and_then next option
 
 unfoldable pub blanks_of : List ℕ → List ℕ × List ℕ
 blanks_of text = front_of is_blank text

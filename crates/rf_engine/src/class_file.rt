@@ -64,7 +64,7 @@ struct EndParts<'a> {
     tail: &'a [u8],
 }
 
-#[tactic(auto, unfolding(crate::specs::ClassReader::head_of, crate::specs::ClassReader::and_then))]
+#[tactic(auto, unfolding(crate::specs::ClassReader::head_of))]
 fn read_head(text: &[u8]) -> Option<HeadCut<'_>>
     ensures { option_map head_cut_seen result ≡ head_of text.now }
 {
@@ -81,7 +81,8 @@ fn read_head(text: &[u8]) -> Option<HeadCut<'_>>
 }
 
 fn read_fields<'a>(alloc: Global, text: &'a [u8]) -> Result<FieldsCut<'a>, Memory>
-    ensures { IfOk result (λ cut. BeginsWithFields text.now (map field_seen cut.fields) cut.rest.now) }
+    ensures { IfOk result
+        (λ cut. BeginsWithFields text.now (map field_seen cut.fields) cut.rest.now) }
 {
     let mut fields = List::new(alloc);
     let mut rest = text;
@@ -92,7 +93,7 @@ fn read_fields<'a>(alloc: Global, text: &'a [u8]) -> Result<FieldsCut<'a>, Memor
     Ok(FieldsCut { fields, rest })
 }
 
-#[tactic(auto, using(crate::proofs::PieceLemmas::scans), unfolding(crate::specs::ClassReader::end_of, crate::specs::ClassReader::and_then))]
+#[tactic(auto, using(crate::proofs::PieceLemmas::scans), unfolding(crate::specs::ClassReader::end_of))]
 fn read_end(text: &[u8]) -> Option<EndParts<'_>>
     ensures { option_map end_seen result ≡ end_of text.now }
 {
@@ -145,7 +146,8 @@ fn write_value(
     old: &[u8],
     new: &[u8],
 ) -> Result<(), Memory>
-    ensures { OnOk result (out.new ≡ out.old ++ value_bytes (Some (renamed_value old.now new.now (value_seen value.now)))) }
+    ensures { OnOk result (out.new ≡ out.old
+        ++ value_bytes (Some (renamed_value old.now new.now (value_seen value.now)))) }
 {
     out.extend(value.before)?;
     out.extend(b"=")?;
@@ -159,7 +161,8 @@ fn write_field(
     old: &[u8],
     new: &[u8],
 ) -> Result<(), Memory>
-    ensures { OnOk result (out.new ≡ out.old ++ field_bytes (renamed_field old.now new.now (field_seen field.now))) }
+    ensures { OnOk result (out.new ≡ out.old
+        ++ field_bytes (renamed_field old.now new.now (field_seen field.now))) }
 {
     out.extend(field.before)?;
     out.extend(b"int")?;
@@ -194,7 +197,8 @@ pub(crate) fn write_renamed(
     old: &[u8],
     new: &[u8],
 ) -> Result<Bytes, Memory>
-    ensures { IfOk result (λ text. text ≡ class_bytes (renamed_class old.now new.now (class_seen class.now))) }
+    ensures { IfOk result
+        (λ text. text ≡ class_bytes (renamed_class old.now new.now (class_seen class.now))) }
 {
     let mut out = Bytes::new(alloc);
     out.extend(class.before)?;
@@ -208,4 +212,44 @@ pub(crate) fn write_renamed(
     out.extend(b"}")?;
     out.extend(class.tail)?;
     Ok(out)
+}
+
+#[cfg(test)]
+mod tests {
+    use super::*;
+    use std::test::Fail;
+
+    #[test]
+    fn a_class_is_written_with_its_field_f_renamed_to_g(rt: HostRuntime) -> Result<(), Fail> {
+        let cases: [(&[u8], Option<&[u8]>); 13] = [
+            (b"class A{int f;int h=f;}", Some(b"class A{int g;int h=g;}")),
+            (b"class A{int h=f;int f;}", Some(b"class A{int h=g;int g;}")),
+            (
+                b"class A{int ff;int h=ff;}",
+                Some(b"class A{int ff;int h=ff;}"),
+            ),
+            (b"class f{}", Some(b"class f{}")),
+            (
+                b"\n class \n A { int  f\n; \n\nint h = f ; }\n",
+                Some(b"\n class \n A { int  g\n; \n\nint h = g ; }\n"),
+            ),
+            (b"classA{}", None),
+            (b"class A{int f}", None),
+            (b"class A{int f;}x", None),
+            (b"class A{int f;int h=;}", None),
+            (b"class A{intf;}", None),
+            (b"class int{}", None),
+            (b"class\tA{}", None),
+            (b"", None),
+        ];
+        for (file, renamed) in cases {
+            let written = match read_class(rt.alloc(), file)? {
+                Some(class) => Some(write_renamed(rt.alloc(), &class, b"f", b"g")?),
+                None => None,
+            };
+            let text = written.as_ref().map(|text| text.as_slice());
+            assert_eq!(rt; text, renamed);
+        }
+        Ok(())
+    }
 }

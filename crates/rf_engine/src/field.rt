@@ -28,7 +28,7 @@ struct ValueCut<'a> {
 }
 
 /// Cuts off `word` and the blanks before it.
-#[tactic(auto, using(crate::proofs::PieceLemmas::scans), unfolding(crate::specs::ClassReader::before_word, crate::specs::ClassReader::and_then))]
+#[tactic(auto, using(crate::proofs::PieceLemmas::scans), unfolding(crate::specs::ClassReader::before_word))]
 pub(crate) fn before_word<'a>(text: &'a [u8], word: &[u8]) -> Option<Cut<'a>>
     ensures { option_map cut_seen result ≡ before_word word.now text.now }
 {
@@ -53,7 +53,7 @@ fn gap(text: &[u8]) -> Option<Cut<'_>>
 }
 
 /// Cuts off a name and the gap before it.
-#[tactic(auto, using(crate::proofs::PieceLemmas::scans), unfolding(crate::specs::ClassReader::parted_name, crate::specs::ClassReader::and_then))]
+#[tactic(auto, using(crate::proofs::PieceLemmas::scans), unfolding(crate::specs::ClassReader::parted_name))]
 pub(crate) fn parted_name(text: &[u8]) -> Option<NameCut<'_>>
     ensures { option_map name_cut_seen result ≡ parted_name text.now }
 {
@@ -66,7 +66,7 @@ pub(crate) fn parted_name(text: &[u8]) -> Option<NameCut<'_>>
     })
 }
 
-#[tactic(auto, using(crate::proofs::PieceLemmas::scans), unfolding(crate::specs::ClassReader::value_of, crate::specs::ClassReader::value_behind, crate::specs::ClassReader::and_then))]
+#[tactic(auto, using(crate::proofs::PieceLemmas::scans), unfolding(crate::specs::ClassReader::value_of, crate::specs::ClassReader::value_behind))]
 fn read_value(text: &[u8]) -> Option<ValueCut<'_>>
     ensures { option_map value_cut_seen result ≡ value_of text.now }
 {
@@ -90,7 +90,7 @@ fn read_value(text: &[u8]) -> Option<ValueCut<'_>>
 }
 
 /// Cuts off the field that the text begins with.
-#[tactic(auto, unfolding(crate::specs::ClassReader::field_of, crate::specs::ClassReader::and_then))]
+#[tactic(auto, unfolding(crate::specs::ClassReader::field_of))]
 pub(crate) fn read_field(text: &[u8]) -> Option<FieldCut<'_>>
     ensures { option_map field_cut_seen result ≡ field_of text.now }
 {

@@ -23,7 +23,7 @@ pub enum FirstPath {
     NotYet,
 }
 
-/// The answer to a request of the first form, of which `file` is the bytes of the file.
+/// Answers what was read from the bytes of `file` and from a request.
 fn answer(alloc: Global, file: &[u8], form: &FormParts<'_>) -> Result<FirstPath, Memory>
     requires bytes { file.now ≡ class_bytes (class_seen form.now.file.class) }
     requires names { form.now.file.names ≡ names_of (class_seen form.now.file.class) }
@@ -59,3 +59,6 @@ pub fn first_path(
         None => Ok(FirstPath::NotYet),
     }
 }
+
+#[cfg(test)]
+mod tests;
