@@ -62,7 +62,7 @@ head_of-is text head rest at =
     rw (at.whole, class, name, brace)
 
 head_whole : (head : Head) (text behind_class behind_name rest : List ℕ) → text ≡ head.before ++ (codes "class" ++ behind_class) → behind_class ≡ head.gap ++ (head.name ++ behind_name) → behind_name ≡ head.opening ++ (codes "{" ++ rest) → text ≡ head.before ++ (codes "class" ++ (head.gap ++ (head.name ++ (head.opening ++ (codes "{" ++ rest)))))
-head_whole head text behind_class behind_name rest e1 e2 e3 = rw (e1, e2, e3)
+head_whole head text behind_class behind_name rest class name brace = rw (class, name, brace)
 
 head_of-Some : (text : List ℕ) (cut : Head × List ℕ) → head_of text ≡ Some cut → IsHeadAt text cut.0 cut.1
 unfolding head_of
@@ -112,6 +112,7 @@ end_of-Some text end gives =
     end_here text brace.value.1 (blanks_of brace.value.1).1 (record { closing = brace.value.0; tail = (blanks_of brace.value.1).0 }) end
     (before_word-Some (codes "}") text brace.value brace.first_gives) (blanks_of-longest brace.value.1) brace.next_gives
 
+-- the parts of a class, and a class from its parts
 abbrev head_in : ClassFile → Head
 head_in file = record { before = file.before; gap = file.gap; name = file.name; opening = file.opening }
 
@@ -170,7 +171,7 @@ class_of_parts : (head : Head) (fields : List Field) (end : End) (file : ClassFi
 class_of_parts head fields end file heads fields_same ends = rw (heads, fields_same, ends)
 
 class_whole : (head : Head) (fields : List Field) (end : End) (text from_fields rest : List ℕ) → text ≡ head.before ++ (codes "class" ++ (head.gap ++ (head.name ++ (head.opening ++ (codes "{" ++ from_fields))))) → from_fields ≡ flat_map field_bytes fields ++ rest → rest ≡ end.closing ++ (codes "}" ++ end.tail) → text ≡ class_bytes (class_of head fields end)
-class_whole head fields end text from_fields rest e1 e2 e3 = rw (e1, e2, e3)
+class_whole head fields end text from_fields rest first body last = rw (first, body, last)
 
 -- and where they are found the text is the class that they make, and no other one
 pub class_found : (text : List ℕ) (head : Head) (from_fields : List ℕ) (fields : List Field) (rest : List ℕ) (end : End) → head_of text ≡ Some (head, from_fields) → BeginsWithFields from_fields fields rest → end_of rest ≡ Some end → IsReading text (class_of head fields end)

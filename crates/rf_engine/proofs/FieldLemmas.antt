@@ -48,7 +48,7 @@ record IsValueAt (text : List ℕ) (value : Option Value) (rest : List ℕ) : Ty
   pub is_value : IfSome value IsValue
 
 value_whole : (value : Value) (text behind_equals from_name rest : List ℕ) → text ≡ value.before ++ (codes "=" ++ behind_equals) → behind_equals ≡ value.gap ++ from_name → from_name ≡ value.name ++ rest → text ≡ value_bytes (Some value) ++ rest
-value_whole value text behind_equals from_name rest e1 e2 e3 = rw (e1, e2, e3) (simp append_assoc)
+value_whole value text behind_equals from_name rest equals gap name = rw (equals, gap, name) (simp append_assoc)
 
 value_here : (text : List ℕ) (found : Option (List ℕ × List ℕ)) (cut : Option Value × List ℕ) → before_word (codes "=") text ≡ found → value_behind text found ≡ Some cut → IsValueAt text cut.0 cut.1
 unfolding value_behind
@@ -78,7 +78,7 @@ pub record IsFieldAt (text : List ℕ) (field : Field) (rest : List ℕ) : Type 
   pub is_field : IsField field
 
 field_whole : (field : Field) (text behind_int behind_name from_after rest : List ℕ) → text ≡ field.before ++ (codes "int" ++ behind_int) → behind_int ≡ field.gap ++ (field.name ++ behind_name) → behind_name ≡ value_bytes field.value ++ from_after → from_after ≡ field.after ++ (codes ";" ++ rest) → text ≡ field_bytes field ++ rest
-field_whole field text behind_int behind_name from_after rest e1 e2 e3 e4 = rw (e1, e2, e3, e4) (simp append_assoc)
+field_whole field text behind_int behind_name from_after rest int name value end = rw (int, name, value, end) (simp append_assoc)
 
 pub field_of-Some : (text : List ℕ) (cut : Field × List ℕ) → field_of text ≡ Some cut → IsFieldAt text cut.0 cut.1
 unfolding field_of

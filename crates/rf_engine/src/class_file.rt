@@ -248,7 +248,7 @@ mod tests {
                 None => None,
             };
             let text = written.as_ref().map(|text| text.as_slice());
-            assert_eq!(rt; text, renamed);
+            assert_eq!(rt; text, renamed, "of {file:?}");
         }
         Ok(())
     }
