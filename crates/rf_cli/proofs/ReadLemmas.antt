@@ -20,8 +20,10 @@ stands p (other ∷ paths) path one = by (p other) refl one (stands p paths path
   where
     first : other ≡ path → (bytes_eq other path || list_any (λ other. bytes_eq other path) paths) ≡ true
     first e = ap (λ b. b || list_any (λ other. bytes_eq other path) paths) ((bytes_eq-Decides other path).1 e)
+
     later : list_any (λ other. bytes_eq other path) paths ≡ true → (bytes_eq other path || list_any (λ other. bytes_eq other path) paths) ≡ true
     later h = elim (bytes_eq other path) as (λ b. (b || list_any (λ other. bytes_eq other path) paths) ≡ true) [ true ↦ refl | false ↦ h ]
+
     by : (b : Bool) → p other ≡ b → cond b (other ∷ filter p paths) (filter p paths) ≡ path ∷ [] → (filter p paths ≡ path ∷ [] → list_any (λ other. bytes_eq other path) paths ≡ true) → (bytes_eq other path || list_any (λ other. bytes_eq other path) paths) ≡ true
     by true e one rest = first cc
     by false e one rest = later (rest one)
@@ -48,7 +50,7 @@ listed : (root path : List ℕ) (files : List File) → list_any (λ other. byte
 listed root path [] there = absurd (true≢false (sym there))
 listed root path (file ∷ files) there =
     found_too root path file (bytes_eq file.0 root) (bytes_eq file.1 path) (list_any (λ other. bytes_eq other path) (paths_under root files)) (find (is_at root path) files)
-        (sym (on_top root path file (bytes_eq file.0 root) (filter (λ file. bytes_eq file.0 root) files)) ∙ there) (listed root path files)
+    (sym (on_top root path file (bytes_eq file.0 root) (filter (λ file. bytes_eq file.0 root) files)) ∙ there) (listed root path files)
 
 -- the one Java file is there
 pub one_file_is_there : (root path : List ℕ) (files : List File) → java_paths root files ≡ path ∷ [] → content root path files ≡ None → ⊥
@@ -65,15 +67,15 @@ value_same e = cc
 module _ (command : Apply) (path file request : List ℕ) (paths : List (List ℕ)) (answer : FirstPath) where
   right : (files : List File) → command.lib ≡ no_library → content [] command.request files ≡ Some request → java_paths command.src files ≡ path ∷ [] → content command.src path files ≡ Some file → IsAnswer path file request answer → IsRight command files path answer
   right files alone read one found decided = record {
-      of_form = λ at form holds.
+    of_form = λ at form holds.
         let same_path : path ≡ at = first_same (sym one ∙ holds.one_file) in
         let same_request : holds.request ≡ request = value_same (sym holds.request_is ∙ read) in
         let same_file : holds.file ≡ file = value_same (sym holds.file_is ∙ ap (λ p. content command.src p files) (sym same_path) ∙ found) in
         let its_request : IsForm form at holds.file request = subst (λ r. IsForm form at holds.file r) same_request holds.is_form in
         let its_file : IsForm form at file request = subst (λ f. IsForm form at f request) same_file its_request in
         (same_path, decided.of_form form (subst (λ p. IsForm form p file request) (sym same_path) its_file));
-      some_form = λ some. let it = decided.some_form some in (it.0, record { no_library = alone; request = request; request_is = read; one_file = one; file = file; file_is = found; is_form = it.1 });
-    }
+    some_form = λ some. let it = decided.some_form some in (it.0, record { no_library = alone; request = request; request_is = read; one_file = one; file = file; file_is = found; is_form = it.1 });
+  }
 
   right_among : (told listed read : Option (List File)) → listed ≡ told → read ≡ listed
       → command.lib ≡ no_library

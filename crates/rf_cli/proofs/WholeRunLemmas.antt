@@ -61,11 +61,14 @@ module _ (words : List (List ℕ)) (command : Apply) (is_apply : IsApply words c
     changed (Some files) before NotYet same right acts is = absurd (not_both status.NotYet status.Ok (λ e. cc) (λ e. cc) (λ e. cc) acts.0.which is)
     changed (Some files) before (Refused report) same right acts is = absurd (not_both status.Refused status.Ok (λ e. cc) (λ e. cc) (λ e. cc) acts.0.which is)
     changed (Some files) before (Changed bytes report) same right acts is = record {
-        command = command; path = path; bytes = bytes; report = report;
-        answer = has_answer files (Changed bytes report) right (λ e. cc);
-        written = acts.1.whole is ∙ ap (option_map (with_file command.out path bytes)) same;
-        line = acts.0.line is;
-      }
+      command = command;
+      path = path;
+      bytes = bytes;
+      report = report;
+      answer = has_answer files (Changed bytes report) right (λ e. cc);
+      written = acts.1.whole is ∙ ap (option_map (with_file command.out path bytes)) same;
+      line = acts.0.line is;
+    }
 
     pub refused : (told before : Option (List File)) (answer : FirstPath) → IfSome told (λ files. IsRight command files path answer) → Acts command.out path answer result writes writes_after before after taken put
         → result ≡ status.Refused → IfSome told (λ files. IsRefused words files taken put)
@@ -73,10 +76,12 @@ module _ (words : List (List ℕ)) (command : Apply) (is_apply : IsApply words c
     refused (Some files) before NotYet right acts is = absurd (not_both status.NotYet status.Refused (λ e. cc) (λ e. cc) (λ e. cc) acts.0.which is)
     refused (Some files) before (Changed bytes report) right acts is = absurd (not_both status.Ok status.Refused (λ e. cc) (λ e. cc) (λ e. cc) acts.0.which is)
     refused (Some files) before (Refused report) right acts is = record {
-        command = command; path = path; report = report;
-        answer = has_answer files (Refused report) right (λ e. cc);
-        line = acts.0.line is;
-      }
+      command = command;
+      path = path;
+      report = report;
+      answer = has_answer files (Refused report) right (λ e. cc);
+      line = acts.0.line is;
+    }
 
     pub not_yet : (told before : Option (List File)) (answer : FirstPath) → IfSome told (λ files. IsRight command files path answer) → Acts command.out path answer result writes writes_after before after taken put
         → result ≡ status.NotYet → IfSome told (HasNoForm words)
@@ -102,12 +107,12 @@ module _ (words : List (List ℕ)) (command : Apply) (is_apply : IsApply words c
 
     exact_of : (files : List File) (before : Option (List File)) (answer : FirstPath) → IsRight command files path answer → Acts command.out path answer result writes writes_after before after taken put → IsExact words files result
     exact_of files before answer right acts = record {
-        bad_words = λ bad. absurd (bad command is_apply);
-        form = λ other at form other_is holds.
-            let mine : HoldsForm command files at form = subst (λ c. HoldsForm c files at form) (same_command words other command other_is is_apply) holds in
-            or_fault (status_of (answer_of form)) (subst (λ a. (result ≡ status_of a) ⊎ Fails result) (right.of_form at form mine).1 (ends before answer acts));
-        no_form = λ none. or_fault status.NotYet (ends_not_yet files before answer right acts none);
-      }
+      bad_words = λ bad. absurd (bad command is_apply);
+      form = λ other at form other_is holds.
+          let mine : HoldsForm command files at form = subst (λ c. HoldsForm c files at form) (same_command words other command other_is is_apply) holds in
+          or_fault (status_of (answer_of form)) (subst (λ a. (result ≡ status_of a) ⊎ Fails result) (right.of_form at form mine).1 (ends before answer acts));
+      no_form = λ none. or_fault status.NotYet (ends_not_yet files before answer right acts none);
+    }
 
     pub exact : (told before : Option (List File)) (answer : FirstPath) → IfSome told (λ files. IsRight command files path answer) → Acts command.out path answer result writes writes_after before after taken put → IfSome told (λ files. IsExact words files result)
     exact None before answer right acts = tt
@@ -119,13 +124,19 @@ module _ (words : List (List ℕ)) (command : Apply) (is_apply : IsApply words c
     touched (Some files) before NotYet same right acts = inl (acts.1 ∙ same)
     touched (Some files) before (Refused report) same right acts = inl (acts.1 ∙ same)
     touched (Some files) before (Changed bytes report) same right acts = elim acts.1.part [
-        inl e ↦ inl (e ∙ same)
-      | inr part ↦ inr (part.0, record {
-            command = command; path = path; bytes = bytes; report = report;
-            answer = has_answer files (Changed bytes report) right (λ e. cc);
-            written = part.1 ∙ ap (option_map (with_file command.out path (take part.0 bytes))) same;
-          })
-      ]
+      | inl e ↦ inl (e ∙ same)
+      | inr part ↦ inr (
+        part.0,
+        record {
+          command = command;
+          path = path;
+          bytes = bytes;
+          report = report;
+          answer = has_answer files (Changed bytes report) right (λ e. cc);
+          written = part.1 ∙ ap (option_map (with_file command.out path (take part.0 bytes))) same;
+        },
+      )
+    ]
 
     -- and where no write failed the file stands whole, or another status had its cause
     pub stands_whole : (reads reads_after : ℕ) (told before : Option (List File)) (answer : FirstPath) → before ≡ told → IfSome told (λ files. IsRight command files path answer) → Acts command.out path answer result writes writes_after before after taken put
@@ -135,19 +146,22 @@ module _ (words : List (List ℕ)) (command : Apply) (is_apply : IsApply words c
     stands_whole reads reads_after (Some files) before (Refused report) same right acts is still =
         inr (record { same = acts.1 ∙ same; cause = inr (inr (inl (record { command = command; path = path; report = report; answer = has_answer files (Refused report) right (λ e. cc) }))) })
     stands_whole reads reads_after (Some files) before (Changed bytes report) same right acts is still = inl (record {
-        command = command; path = path; bytes = bytes; report = report;
-        answer = has_answer files (Changed bytes report) right (λ e. cc);
-        written = acts.1.whole_still is still ∙ ap (option_map (with_file command.out path bytes)) same;
-      })
+      command = command;
+      path = path;
+      bytes = bytes;
+      report = report;
+      answer = has_answer files (Changed bytes report) right (λ e. cc);
+      written = acts.1.whole_still is still ∙ ap (option_map (with_file command.out path bytes)) same;
+    })
 
 -- bad words are that, whatever the files
 pub bad_words_exact : (words : List (List ℕ)) (result : Status) (told : Option (List File)) → AreBadWords words → (result ≡ status.BadWords) ⊎ Fails result → IfSome told (λ files. IsExact words files result)
 bad_words_exact words result None bad which = tt
 bad_words_exact words result (Some files) bad which = record {
-    bad_words = λ again. elim which [ inl e ↦ inl e | inr f ↦ inr (inr f) ];
-    form = λ command at form is_apply holds. absurd (bad command is_apply);
-    no_form = λ none. absurd (bad none.command none.is_apply);
-  }
+  bad_words = λ again. elim which [ inl e ↦ inl e | inr f ↦ inr (inr f) ];
+  form = λ command at form is_apply holds. absurd (bad command is_apply);
+  no_form = λ none. absurd (bad none.command none.is_apply);
+}
 
 -- the request of the command is there
 pub request_is_there : (words : List (List ℕ)) (command : Apply) (told : Option (List File)) → IsApply words command → IfSome told (HasRequest words) → IfSome told (λ files. IsSome (content [] command.request files))
@@ -161,6 +175,7 @@ pub acts_changed : (out path bytes report path_slice bytes_slice report_slice : 
     → after ≡ option_map (with_file out path_slice bytes_slice) before
     → Acts out path (Changed bytes report) result writes writes_after before after taken put
 acts_changed out path bytes report path_slice bytes_slice report_slice result writes writes_after before after taken put p b r which line written =
-    let whole : after ≡ option_map (with_file out path bytes) before = written ∙ (λ i. option_map (with_file out (p i) (b i)) before) in
-    (record { which = which; line = λ is. subst (λ text. Puts text taken put) r (line is) },
-     record { whole = λ is. whole; whole_still = λ is still. whole; part = inr (length bytes, whole ∙ ap (λ part. option_map (with_file out path part) before) (sym (take-length bytes))) })
+    let whole : after ≡ option_map (with_file out path bytes) before = written ∙ (λ i. option_map (with_file out (p i) (b i)) before) in (
+      record { which = which; line = λ is. subst (λ text. Puts text taken put) r (line is) },
+      record { whole = λ is. whole; whole_still = λ is still. whole; part = inr (length bytes, whole ∙ ap (λ part. option_map (with_file out path part) before) (sym (take-length bytes))) },
+    )

@@ -12,7 +12,7 @@ has_last_part name path = bytes_eq path name || ends_with nat_eq path (codes "/"
 abbrev pub is_java_path : List ℕ → Bool
 is_java_path path =
     ends_with nat_eq path (codes ".java") && not (has_last_part (codes "package-info.java") path)
-        && not (has_last_part (codes "module-info.java") path)
+    && not (has_last_part (codes "module-info.java") path)
 
 -- the paths of the Java files under a root
 abbrev pub java_paths : List ℕ → List File → List (List ℕ)

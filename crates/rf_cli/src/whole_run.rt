@@ -35,7 +35,7 @@ pub fn run<W: World, S: Sink>(alloc: Global, words: &[Bytes], world: &mut W, out
 
     ensures write_fault_whole { result ≡ Status.WriteFault
         → (Rose (W.write_faults world.old) (W.write_faults world.new) → ⊥) → IfSome (W.told world.old)
-            (λ files. StandsWhole words.now files (W.told world.new) (W.read_faults world.old) (W.read_faults world.new)) }
+        (λ files. StandsWhole words.now files (W.told world.new) (W.read_faults world.old) (W.read_faults world.new)) }
 
     // And that each comes whenever its cause holds and no call failed.
     ensures exact { IfSome (W.told world.old) (λ files. IsExact words.now files result) }
@@ -45,7 +45,7 @@ pub fn run<W: World, S: Sink>(alloc: Global, words: &[Bytes], world: &mut W, out
     ensures touched { IfSome (W.told world.old) (λ files. TouchesOneFile words.now files (W.told world.new)) }
     ensures counts { IsFault result
         ⊎ CountsAreSame (W.read_faults world.old) (W.write_faults world.old) (S.faults out.old)
-            (W.read_faults world.new) (W.write_faults world.new) (S.faults out.new) }
+        (W.read_faults world.new) (W.write_faults world.new) (S.faults out.new) }
     ensures honest { IsTrue (W.honest world.old) → IfSome (W.told world.old) (HasRequest words.now)
         → (result ≢ Status.ReadFault) × (W.read_faults world.new ≡ W.read_faults world.old) }
 {
@@ -77,7 +77,12 @@ fn act<W: World, S: Sink>(
     match answer {
         FirstPath::NotYet => put(alloc, out, b"not yet\n", Status::NotYet),
         FirstPath::Refused { report } => put(alloc, out, report.as_slice(), Status::Refused),
-        FirstPath::Changed { bytes, report } => match world.write(alloc, command.out, path.as_slice(), bytes.as_slice()) {
+        FirstPath::Changed { bytes, report } => match world.write(
+            alloc,
+            command.out,
+            path.as_slice(),
+            bytes.as_slice(),
+        ) {
             Ok(()) => put(alloc, out, report.as_slice(), Status::Ok),
             Err(WorldErr::Failed) => {
                 let _ = out.put(alloc, b"write fault\n");

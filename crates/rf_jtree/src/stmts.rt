@@ -1,4 +1,4 @@
-use crate::{Expr, Init, Dims, Many, Mod, Name, Tok, TypeUse};
+use crate::{Dims, Expr, Init, Many, Mod, Name, Tok, TypeUse};
 use rf_text::List;
 
 /// A variable: its name, brackets, and what it begins with (JLS 8.3, 14.4).

@@ -25,12 +25,6 @@ macro_rules! place_among {
     };
 }
 
-macro_rules! are_found {
-    (; $($word:literal),*) => {
-        [$(keyword($word)),*]
-    };
-}
-
 /// The place of the first of `words` that is `bytes`.
 pub(crate) fn place(words: &[&[u8]], bytes: &[u8]) -> Option<usize>
     ensures at { result ≡ position (λ word. bytes_eq word.now bytes.now) words.now }

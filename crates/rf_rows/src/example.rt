@@ -63,13 +63,20 @@ pub fn check<R: Abort + AllocGlobal>(rt: &R, example: &Example<'_>) -> Result<()
     let words = words(alloc, example.words)?;
     let status = run(alloc, words.as_slice(), &mut world, &mut sink);
     assert_eq!(rt; status.code(), example.status, "{name}");
-    assert!(rt; sink.bytes().as_slice() == example.line.as_bytes(), "{name}");
+    assert!(rt;
+        sink.bytes().as_slice() == example.line.as_bytes(),
+        "{name}"
+    );
     for (root, path, bytes) in example.files {
         assert!(rt; stands(&world, root, path, bytes), "{name}");
     }
     match example.written {
         Some((root, path, bytes)) => {
-            assert_eq!(rt; world.files().len(), example.files.len().wrapping_add(1), "{name}");
+            assert_eq!(rt;
+                world.files().len(),
+                example.files.len().wrapping_add(1),
+                "{name}"
+            );
             assert!(rt; stands(&world, root, path, bytes), "{name}");
         }
         None => {

@@ -26,21 +26,33 @@ const RENAME: Example<'static> = Example {
 #[test]
 fn answers_of_the_first_form(rt: HostRuntime) -> Result<(), Fail> {
     check(&rt, &RENAME)?;
-    check(&rt, &Example {
-        name: "the old name again changes nothing",
-        files: &[("src", "A.java", CLASS), ("", "req", b"rename field A.f to f")],
-        line: "ok 0\n",
-        written: Some(("out", "A.java", CLASS)),
-        ..RENAME
-    })?;
-    check(&rt, &Example {
-        name: "the name of another field is refused",
-        files: &[("src", "A.java", b"class A{int f;int g;}"), ("", "req", TO_G)],
-        status: 1,
-        line: "refused A.f A.g\n",
-        written: None,
-        ..RENAME
-    })
+    check(
+        &rt,
+        &Example {
+            name: "the old name again changes nothing",
+            files: &[
+                ("src", "A.java", CLASS),
+                ("", "req", b"rename field A.f to f"),
+            ],
+            line: "ok 0\n",
+            written: Some(("out", "A.java", CLASS)),
+            ..RENAME
+        },
+    )?;
+    check(
+        &rt,
+        &Example {
+            name: "the name of another field is refused",
+            files: &[
+                ("src", "A.java", b"class A{int f;int g;}"),
+                ("", "req", TO_G),
+            ],
+            status: 1,
+            line: "refused A.f A.g\n",
+            written: None,
+            ..RENAME
+        },
+    )
 }
 
 #[test]
@@ -57,7 +69,17 @@ fn bad_words(rt: HostRuntime) -> Result<(), Fail> {
         &["Apply", "src", "-", "out", "req"],
     ];
     for words in cases {
-        check(&rt, &Example { name: "bad words", words, status: 3, line: "bad words\n", written: None, ..RENAME })?;
+        check(
+            &rt,
+            &Example {
+                name: "bad words",
+                words,
+                status: 3,
+                line: "bad words\n",
+                written: None,
+                ..RENAME
+            },
+        )?;
     }
     Ok(())
 }
@@ -66,48 +88,118 @@ fn bad_words(rt: HostRuntime) -> Result<(), Fail> {
 fn failing_calls(rt: HostRuntime) -> Result<(), Fail> {
     let reads: [&[u64]; 3] = [&[0], &[1], &[2]];
     for failing in reads {
-        check(&rt, &Example { name: "a failing read", failing, status: 7, line: "read fault\n", written: None, ..RENAME })?;
+        check(
+            &rt,
+            &Example {
+                name: "a failing read",
+                failing,
+                status: 7,
+                line: "read fault\n",
+                written: None,
+                ..RENAME
+            },
+        )?;
     }
-    check(&rt, &Example {
-        name: "a failing write leaves half of the bytes",
-        failing: &[3],
-        status: 8,
-        line: "write fault\n",
-        written: Some(("out", "A.java", b"class A{int")),
-        ..RENAME
-    })?;
-    check(&rt, &Example { name: "a failing put", failing_puts: &[0], status: 8, line: "", ..RENAME })?;
-    check(&rt, &Example { name: "no request", files: &[("src", "A.java", CLASS)], status: 7, line: "read fault\n", written: None, ..RENAME })
+    check(
+        &rt,
+        &Example {
+            name: "a failing write leaves half of the bytes",
+            failing: &[3],
+            status: 8,
+            line: "write fault\n",
+            written: Some(("out", "A.java", b"class A{int")),
+            ..RENAME
+        },
+    )?;
+    check(
+        &rt,
+        &Example {
+            name: "a failing put",
+            failing_puts: &[0],
+            status: 8,
+            line: "",
+            ..RENAME
+        },
+    )?;
+    check(
+        &rt,
+        &Example {
+            name: "no request",
+            files: &[("src", "A.java", CLASS)],
+            status: 7,
+            line: "read fault\n",
+            written: None,
+            ..RENAME
+        },
+    )
 }
 
 #[test]
 fn not_yet(rt: HostRuntime) -> Result<(), Fail> {
-    let not_yet = Example { name: "a library", words: &["apply", "src", "lib", "out", "req"], status: 12, line: "not yet\n", written: None, ..RENAME };
+    let not_yet = Example {
+        name: "a library",
+        words: &["apply", "src", "lib", "out", "req"],
+        status: 12,
+        line: "not yet\n",
+        written: None,
+        ..RENAME
+    };
     check(&rt, &not_yet)?;
     let files: [&[(&str, &str, &[u8])]; 9] = [
-        &[("src", "A.java", b"class A{int f;int m(int g){return f;}}"), ("", "req", TO_G)],
+        &[
+            ("src", "A.java", b"class A{int f;int m(int g){return f;}}"),
+            ("", "req", TO_G),
+        ],
         &[("src", "B.java", CLASS), ("", "req", TO_G)],
         &[("src", "A.java", CLASS), ("", "req", b"")],
-        &[("src", "A.java", CLASS), ("", "req", b"rename field A.f to \xff")],
+        &[
+            ("src", "A.java", CLASS),
+            ("", "req", b"rename field A.f to \xff"),
+        ],
         &[("src", "A.java", b"class A{int f;}\xff"), ("", "req", TO_G)],
         &[("src", "A.java", b""), ("", "req", TO_G)],
         &[("", "req", TO_G)],
-        &[("src", "A.java", CLASS), ("src", "B.java", b"class B{}"), ("", "req", TO_G)],
-        &[("src", "package-info.java", CLASS), ("src", "p/module-info.java", CLASS), ("", "req", TO_G)],
+        &[
+            ("src", "A.java", CLASS),
+            ("src", "B.java", b"class B{}"),
+            ("", "req", TO_G),
+        ],
+        &[
+            ("src", "package-info.java", CLASS),
+            ("src", "p/module-info.java", CLASS),
+            ("", "req", TO_G),
+        ],
     ];
     for files in files {
-        check(&rt, &Example { name: "not of the first form", words: APPLY, files, ..not_yet })?;
+        check(
+            &rt,
+            &Example {
+                name: "not of the first form",
+                words: APPLY,
+                files,
+                ..not_yet
+            },
+        )?;
     }
     Ok(())
 }
 
 #[test]
 fn other_files_do_not_count(rt: HostRuntime) -> Result<(), Fail> {
-    check(&rt, &Example {
-        name: "a file that is no Java file",
-        files: &[("src", "A.java", CLASS), ("src", "notes.txt", b"x"), ("src", "package-info.java", b"x"), ("lib", "B.java", b"x"), ("", "req", TO_G)],
-        ..RENAME
-    })
+    check(
+        &rt,
+        &Example {
+            name: "a file that is no Java file",
+            files: &[
+                ("src", "A.java", CLASS),
+                ("src", "notes.txt", b"x"),
+                ("src", "package-info.java", b"x"),
+                ("lib", "B.java", b"x"),
+                ("", "req", TO_G),
+            ],
+            ..RENAME
+        },
+    )
 }
 
 /// A text with so many spaces before its last byte that it is `length` bytes long.
@@ -127,20 +219,37 @@ fn limits(rt: HostRuntime) -> Result<(), Fail> {
     let within = padded(rt.alloc(), CLASS, 1_048_576)?;
     let over = padded(rt.alloc(), CLASS, 1_048_577)?;
     let renamed = padded(rt.alloc(), RENAMED, 1_048_576)?;
-    check(&rt, &Example {
-        name: "a file of the greatest size",
-        files: &[("src", "A.java", within.as_slice()), ("", "req", TO_G)],
-        written: Some(("out", "A.java", renamed.as_slice())),
+    check(
+        &rt,
+        &Example {
+            name: "a file of the greatest size",
+            files: &[("src", "A.java", within.as_slice()), ("", "req", TO_G)],
+            written: Some(("out", "A.java", renamed.as_slice())),
+            ..RENAME
+        },
+    )?;
+    let not_yet = Example {
+        name: "a file one byte longer",
+        files: &[("src", "A.java", over.as_slice()), ("", "req", TO_G)],
+        status: 12,
+        line: "not yet\n",
+        written: None,
         ..RENAME
-    })?;
-    let not_yet = Example { name: "a file one byte longer", files: &[("src", "A.java", over.as_slice()), ("", "req", TO_G)], status: 12, line: "not yet\n", written: None, ..RENAME };
+    };
     check(&rt, &not_yet)?;
     let mut request = Vec::new(rt.alloc());
     request.extend_from_slice(b"rename field A.f to g")?;
     for _ in 0..65_516 {
         request.push(b'g')?;
     }
-    check(&rt, &Example { name: "a request of 65,537 bytes", files: &[("src", "A.java", CLASS), ("", "req", request.as_slice())], ..not_yet })
+    check(
+        &rt,
+        &Example {
+            name: "a request of 65,537 bytes",
+            files: &[("src", "A.java", CLASS), ("", "req", request.as_slice())],
+            ..not_yet
+        },
+    )
 }
 
 #[test]

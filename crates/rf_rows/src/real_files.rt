@@ -1,9 +1,9 @@
 use crate::example::{APPLY, words};
 use rf_cli::run;
-use rf_world::{MemSink, RealWorld};
 use rf_text::List;
-use std::test::Fail;
+use rf_world::{MemSink, RealWorld};
 use std::fs;
+use std::test::Fail;
 
 #[test]
 fn a_field_is_renamed_in_real_files(rt: HostRuntime) -> Result<(), Fail> {

@@ -8,4 +8,4 @@ pub returns-then-is_some : goal.returns-then-is_some
 returns-then-is_some c =
     let here = sym (ap is_java_path (c.as_slice.ensures ∙ c.path-item.is)) ∙ sym c.is_java.ensures ∙ c.if-is_java.true in
     never_alone is_java_path (λ path. path.now) c.args.paths.now c.loop-path.path-index c.path-item.result c.loop-path.found
-        c.loop-path-test.true here c.loop-path.invariant (sym c.is_some.ensures ∙ c.if-is_some.true)
+    c.loop-path-test.true here c.loop-path.invariant (sym c.is_some.ensures ∙ c.if-is_some.true)
