@@ -7,6 +7,8 @@ mod list;
 mod memory;
 mod names;
 mod span;
+#[cfg(test)]
+mod tests;
 
 pub use bytes::Bytes;
 pub use list::List;
