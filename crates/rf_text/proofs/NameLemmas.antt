@@ -93,7 +93,7 @@ module _ (text : List ℕ) (key : Vec ℕ Global) (keys : Keys) (is : key.items 
   pub insert_index-fresh : position_or_len (same_text key) keys ≡ length (texts_of keys)
   insert_index-fresh =
       ap (λ t. position_or_len (λ (k : Vec ℕ Global). bytes_eq t k.items) keys) is
-          ∙ position_or_len-absent text keys (list_any-absent text keys absent) ∙ sym (length-map keys (λ k. k.items))
+      ∙ position_or_len-absent text keys (list_any-absent text keys absent) ∙ sym (length-map keys (λ k. k.items))
 
 -- keys that are distinct have distinct texts
 differ_too : (text : List ℕ) (keys : Keys) → AllByRecursion (λ (key : Vec ℕ Global). bytes_eq text key.items ≡ false) keys → AllByRecursion (λ other. bytes_eq text other ≡ false) (texts_of keys)
@@ -115,5 +115,5 @@ absent_before keys i key distinct lt is there =
     let short : k < i = omega (arith, there.1, length-map (take i keys) (λ key. key.items), length-take {A = Vec ℕ Global}) in
     let here : get_or (texts_of keys) i key.items ≡ key.items = get_or-map (λ (key : Vec ℕ Global). key.items) keys i key key.items lt ∙ ap (λ (key : Vec ℕ Global). key.items) (sym is) in
     let before : get_or (texts_of keys) k key.items ≡ key.items =
-        sym (get_or-take i (texts_of keys) k key.items short) ∙ ap (λ ts. get_or ts k key.items) (take-map (λ (key : Vec ℕ Global). key.items) i keys) ∙ there.2 in
+    sym (get_or-take i (texts_of keys) k key.items short) ∙ ap (λ ts. get_or ts k key.items) (take-map (λ (key : Vec ℕ Global). key.items) i keys) ∙ there.2 in
     texts_are_distinct keys distinct k i key.items short (omega (arith, length-map keys (λ key. key.items))) (before ∙ sym here)

@@ -7,5 +7,5 @@ use Rattle.rf_text.proofs.names.Names.copy.Goals as goal
 pub add-requires : goal.add-requires
 add-requires c = rw (c.loop-text.invariant, c.as_slice.ensures.value)
     (absent_before c.as_slice-text-items.result.now c.loop-text.text-index c.text-item.result
-        (subst (IsDistinct same_text) (sym c.as_slice-text-items.ensures.keys) c.as_slice-text-items.ensures.unique)
-        c.loop-text-test.true c.text-item.is)
+    (subst (IsDistinct same_text) (sym c.as_slice-text-items.ensures.keys) c.as_slice-text-items.ensures.unique)
+    c.loop-text-test.true c.text-item.is)
