@@ -1,6 +1,6 @@
 -- Texts that a set holds as distinct keys are distinct lists of bytes.
-use Rattle.std.proofs.Common.{◌≡◌, ◌≢◌, ℕ, List, [], ◌∷◌, map, sym, ◌∙◌, Bool, true, false, true≢false, Vec, Global, arith}
-use Rattle.std.specs.Prelude.{All, AllPairs, bytes_eq}
+use Rattle.std.proofs.Common.{◌≡◌, ◌≢◌, ℕ, List, [], ◌∷◌, map, sym, ◌∙◌, Bool, false, true≢false, Vec, Global, arith}
+use Rattle.std.specs.Prelude.{All, bytes_eq}
 use Rattle.std.specs.List.{IsDistinct}
 use Rattle.std.proofs.lemmas.List.Elements.{All-from_recursion, All-map}
 use Rattle.std.proofs.lemmas.List.Kept.{AllPairs-cons}

@@ -1,4 +1,4 @@
--- When a call may answer that it failed: each answer of that kind shows in a count of the object that was called.
+-- When a call may answer that it failed: each such answer shows in a count of the object that was called.
 use Rattle.std.specs.Prelude.{◌≡◌, ℕ, ◌+◌, ◌-◌, ◌^◌, ◌<◌, ◌≤◌, ◌⊎◌, Result, OnOk, IsErrOf, min}
 
 -- the last value of a count, at which it stays
@@ -13,7 +13,7 @@ next_count count = min (count + 1) last_count
 abbrev pub Rose : ℕ → ℕ → Type 0
 Rose before now = (before < now) ⊎ (now ≡ last_count)
 
--- a count never falls, it rose where the call failed, and it is as before where the call succeeded or wanted memory
+-- a count never falls; it rose where the call failed, and is as before where it succeeded or wanted memory
 pub record HasCause {T E : Type 0} (fault memory : E) (before now : ℕ) (result : Result T E) : Type 0 where
   pub later : before ≤ now
   pub failed : IsErrOf result fault → Rose before now

@@ -34,7 +34,7 @@ placed (Some place) file files = slice_set files place file
 abbrev pub with_file : List ℕ → List ℕ → List ℕ → List File → List File
 with_file root path bytes files = placed (position (is_at root path) files) (root, path, bytes) files
 
--- what is told after a write that did not succeed: all is as before, or that one file holds a prefix of the bytes
+-- after a write that did not succeed all is as before, or that one file holds a prefix of the bytes
 abbrev pub MayHoldPrefix : List ℕ → List ℕ → List ℕ → Option (List File) → Option (List File) → Type 0
 MayHoldPrefix root path bytes before now =
     (now ≡ before) ⊎ ((count : ℕ) × (now ≡ option_map (with_file root path (take count bytes)) before))

@@ -6,7 +6,8 @@ use crate::{World, WorldErr, mem_files};
 use rf_text::{Bytes, List, Memory};
 use std::alloc::Global;
 
-/// A world in memory, which tells its files, and of which only a read of a file that is not there fails.
+/// A world in memory, which tells its files.
+/// Only a read of a file that is not there fails.
 #[derive(Debug, Drop)]
 pub struct HonestWorld {
     files: List<(Bytes, Bytes, Bytes)>,
@@ -80,9 +81,12 @@ impl World for HonestWorld {
     /// It fails exactly where the file is not there.
     fn read(&mut self, alloc: Global, root: &[u8], path: &[u8]) -> Result<Bytes, WorldErr>
         ensures ok { IfOk result (λ bytes. content root.now path.now (honest_files self.old) ≡ Some bytes) }
-        ensures failed { IsErrOf result WorldErr.Failed ↔ (content root.now path.now (honest_files self.old) ≡ None) }
-        ensures cause { HasCause WorldErr.Failed WorldErr.Memory (absent_reads self.old) (absent_reads self.new) result }
-        ensures counted { IsErrOf result WorldErr.Failed → absent_reads self.new ≡ next_count (absent_reads self.old) }
+        ensures failed { IsErrOf result WorldErr.Failed
+            ↔ (content root.now path.now (honest_files self.old) ≡ None) }
+        ensures cause { HasCause WorldErr.Failed WorldErr.Memory
+            (absent_reads self.old) (absent_reads self.new) result }
+        ensures counted { IsErrOf result WorldErr.Failed
+            → absent_reads self.new ≡ next_count (absent_reads self.old) }
 
         ensures same_files { honest_files self.new ≡ honest_files self.old }
     {

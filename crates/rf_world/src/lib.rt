@@ -13,6 +13,8 @@ mod real_paths;
 mod real_sink;
 mod real_world;
 mod sink;
+#[cfg(test)]
+mod tests;
 mod world;
 
 pub use honest_sink::HonestSink;

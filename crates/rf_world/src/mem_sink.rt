@@ -6,7 +6,7 @@ use rf_text::{Bytes, List};
 use std::alloc::Global;
 
 /// A sink in memory, which tells its bytes, and of which chosen calls fail.
-/// The calls of `put` are numbered from 0, and those that fail count too.
+/// The calls of `put` are numbered from 0 in their order, failed ones too.
 #[derive(Debug, Drop)]
 pub struct MemSink {
     bytes: Bytes,
@@ -63,8 +63,10 @@ impl Sink for MemSink {
         ensures ok { OnOk result (sink_bytes self.new ≡ sink_bytes self.old ++ bytes.now) }
         ensures err { OnErr result (sink_bytes self.new ≡ sink_bytes self.old) }
         ensures failed { IsErrOf result SinkErr.Failed ↔ PutFailsNext self.old }
-        ensures cause { HasCause SinkErr.Failed SinkErr.Memory (failed_puts self.old) (failed_puts self.new) result }
-        ensures counted { IsErrOf result SinkErr.Failed → failed_puts self.new ≡ next_count (failed_puts self.old) }
+        ensures cause { HasCause SinkErr.Failed SinkErr.Memory
+            (failed_puts self.old) (failed_puts self.new) result }
+        ensures counted { IsErrOf result SinkErr.Failed
+            → failed_puts self.new ≡ next_count (failed_puts self.old) }
 
         ensures call { puts_made self.new ≡ next_count (puts_made self.old) }
         ensures same_failing { failing_puts self.new ≡ failing_puts self.old }

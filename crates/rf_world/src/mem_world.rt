@@ -7,7 +7,7 @@ use rf_text::{Bytes, List, Memory};
 use std::alloc::Global;
 
 /// A world in memory, which tells its files, and of which chosen calls fail.
-/// The calls of `list`, `read` and `write` are numbered from 0 in their order, and those that fail count too.
+/// The calls of `list`, `read` and `write` are numbered from 0 in their order, failed ones too.
 #[derive(Debug, Drop)]
 pub struct MemWorld {
     files: List<(Bytes, Bytes, Bytes)>,
@@ -100,8 +100,10 @@ impl World for MemWorld {
         ensures ok { IfOk result (λ paths. paths ≡ paths_under root.now (world_files self.old)) }
         ensures once { IfOk result AreDistinct }
         ensures failed { IsErrOf result WorldErr.Failed ↔ FailsNext self.old }
-        ensures cause { HasCause WorldErr.Failed WorldErr.Memory (failed_reads self.old) (failed_reads self.new) result }
-        ensures counted { IsErrOf result WorldErr.Failed → failed_reads self.new ≡ next_count (failed_reads self.old) }
+        ensures cause { HasCause WorldErr.Failed WorldErr.Memory
+            (failed_reads self.old) (failed_reads self.new) result }
+        ensures counted { IsErrOf result WorldErr.Failed
+            → failed_reads self.new ≡ next_count (failed_reads self.old) }
 
         ensures call { CountsOneCall self.old self.new }
         ensures same_files { world_files self.new ≡ world_files self.old }
@@ -118,8 +120,10 @@ impl World for MemWorld {
         ensures ok { IfOk result (λ bytes. content root.now path.now (world_files self.old) ≡ Some bytes) }
         ensures failed { IsErrOf result WorldErr.Failed
             ↔ (FailsNext self.old ⊎ (content root.now path.now (world_files self.old) ≡ None)) }
-        ensures cause { HasCause WorldErr.Failed WorldErr.Memory (failed_reads self.old) (failed_reads self.new) result }
-        ensures counted { IsErrOf result WorldErr.Failed → failed_reads self.new ≡ next_count (failed_reads self.old) }
+        ensures cause { HasCause WorldErr.Failed WorldErr.Memory
+            (failed_reads self.old) (failed_reads self.new) result }
+        ensures counted { IsErrOf result WorldErr.Failed
+            → failed_reads self.new ≡ next_count (failed_reads self.old) }
 
         ensures call { CountsOneCall self.old self.new }
         ensures same_files { world_files self.new ≡ world_files self.old }
@@ -146,23 +150,31 @@ impl World for MemWorld {
         ensures ok { OnOk result
             (world_files self.new ≡ with_file root.now path.now bytes.now (world_files self.old)) }
         ensures half { IsErrOf result WorldErr.Failed
-            → world_files self.new ≡ with_file root.now path.now (take (length bytes.now / 2) bytes.now) (world_files self.old) }
+            → world_files self.new ≡ with_file root.now path.now
+            (take (length bytes.now / 2) bytes.now) (world_files self.old) }
         ensures unchanged { IsErrOf result WorldErr.Memory → world_files self.new ≡ world_files self.old }
         ensures fails { FailsNext self.old → IsErr result }
         ensures failed { IsErrOf result WorldErr.Failed → FailsNext self.old }
-        ensures cause { HasCause WorldErr.Failed WorldErr.Memory (failed_writes self.old) (failed_writes self.new) result }
-        ensures counted { IsErrOf result WorldErr.Failed → failed_writes self.new ≡ next_count (failed_writes self.old) }
+        ensures cause { HasCause WorldErr.Failed WorldErr.Memory
+            (failed_writes self.old) (failed_writes self.new) result }
+        ensures counted { IsErrOf result WorldErr.Failed
+            → failed_writes self.new ≡ next_count (failed_writes self.old) }
 
         ensures call { CountsOneCall self.old self.new }
         ensures same_reads { failed_reads self.new ≡ failed_reads self.old }
     {
-        if self.begin_call() {
-            let half = &bytes[..bytes.len() / 2];
-            mem_files::put(alloc, &mut self.files, root, path, half)?;
+        let fails = self.begin_call();
+        let stored = if fails {
+            &bytes[..bytes.len() / 2]
+        } else {
+            bytes
+        };
+        mem_files::put(alloc, &mut self.files, root, path, stored)?;
+        if fails {
             self.write_faults = self.write_faults.saturating_add(1);
             return Err(WorldErr::Failed);
         }
-        Ok(mem_files::put(alloc, &mut self.files, root, path, bytes)?)
+        Ok(())
     }
 
     ghost tells = { λ _ _. refl };

@@ -55,7 +55,8 @@ impl Walk {
         root: &str,
         folder: &str,
     ) -> Result<(), WorldErr>
-        ensures { vec_len self.new.folders + self.new.names_left ≤ vec_len self.old.folders + self.old.names_left }
+        ensures { vec_len self.new.folders + self.new.names_left
+            ≤ vec_len self.old.folders + self.old.names_left }
     {
         let place = joined(alloc, root, folder)?;
         for entry in fs::read_dir(rt, place.as_str()).map_err(fault)? {
@@ -66,7 +67,7 @@ impl Walk {
     }
 
     /// Lists a file, also one that a link leads to, and notes a folder to be read later.
-    /// A link to a folder is passed over, and so is all else, as a pipe or a link that leads nowhere.
+    /// A link to a folder is passed over, and so is a pipe, or a link that leads nowhere.
     fn add_entry<R: Files + AllocGlobal + Clone + Drop>(
         &mut self,
         rt: &R,
@@ -74,7 +75,8 @@ impl Walk {
         folder: &str,
         entry: &DirEntry<R, Global>,
     ) -> Result<(), WorldErr>
-        ensures { vec_len self.new.folders + self.new.names_left ≤ vec_len self.old.folders + self.old.names_left }
+        ensures { vec_len self.new.folders + self.new.names_left
+            ≤ vec_len self.old.folders + self.old.names_left }
     {
         if self.names_left == 0 {
             return Err(WorldErr::Failed);

@@ -47,7 +47,8 @@ impl<T: Drop> From<AllocFailed<T>> for WorldErr {
     }
 }
 
-/// Files by root and path: the root is where a tree of files stands, the path is relative to it, with `/`.
+/// Files by root and path: the root is where a tree of files stands, and the path goes down from
+/// it, with `/`.
 ///
 /// A world may tell its files, and then the clauses say what each call gives and does.
 /// It counts the reads and the writes that failed, up to 2^64 - 1.
@@ -66,9 +67,11 @@ pub trait World {
 
     /// The paths of the files under `root`, each once.
     fn list(&mut self, alloc: Global, root: &[u8]) -> Result<List<Bytes>, WorldErr>
-        ensures ok { IfOk result (λ paths. IfSome (told self.old) (λ files. paths ≡ paths_under root.now files)) }
+        ensures ok { IfOk result (λ paths.
+            IfSome (told self.old) (λ files. paths ≡ paths_under root.now files)) }
         ensures once { IfOk result AreDistinct }
-        ensures cause { HasCause WorldErr.Failed WorldErr.Memory (read_faults self.old) (read_faults self.new) result }
+        ensures cause { HasCause WorldErr.Failed WorldErr.Memory
+            (read_faults self.old) (read_faults self.new) result }
         ensures never { IsTrue (honest self.old) → IsErrOf result WorldErr.Failed → ⊥ }
 
         ensures same_files { told self.new ≡ told self.old }
@@ -77,8 +80,10 @@ pub trait World {
 
     /// The bytes of one file. A file that is not there is `Failed`.
     fn read(&mut self, alloc: Global, root: &[u8], path: &[u8]) -> Result<Bytes, WorldErr>
-        ensures ok { IfOk result (λ bytes. IfSome (told self.old) (λ files. content root.now path.now files ≡ Some bytes)) }
-        ensures cause { HasCause WorldErr.Failed WorldErr.Memory (read_faults self.old) (read_faults self.new) result }
+        ensures ok { IfOk result (λ bytes.
+            IfSome (told self.old) (λ files. content root.now path.now files ≡ Some bytes)) }
+        ensures cause { HasCause WorldErr.Failed WorldErr.Memory
+            (read_faults self.old) (read_faults self.new) result }
         ensures absent { IsTrue (honest self.old) → IsErrOf result WorldErr.Failed
             → IfSome (told self.old) (λ files. content root.now path.now files ≡ None) }
 
@@ -86,7 +91,8 @@ pub trait World {
         ensures same_write_faults { write_faults self.new ≡ write_faults self.old }
         ensures same_honest { honest self.new ≡ honest self.old };
 
-    /// Adds one file or replaces its bytes. After an `Err` the file is as before or holds a prefix of `bytes`.
+    /// Adds one file or replaces its bytes.
+    /// After an `Err` that file is as before or holds a prefix of `bytes`, and all others stand.
     fn write(
         &mut self,
         alloc: Global,
@@ -98,7 +104,8 @@ pub trait World {
             (told self.new ≡ option_map (with_file root.now path.now bytes.now) (told self.old)) }
         ensures err { OnErr result
             (MayHoldPrefix root.now path.now bytes.now (told self.old) (told self.new)) }
-        ensures cause { HasCause WorldErr.Failed WorldErr.Memory (write_faults self.old) (write_faults self.new) result }
+        ensures cause { HasCause WorldErr.Failed WorldErr.Memory
+            (write_faults self.old) (write_faults self.new) result }
 
         ensures same_read_faults { read_faults self.new ≡ read_faults self.old }
         ensures same_honest { honest self.new ≡ honest self.old };
