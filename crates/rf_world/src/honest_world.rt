@@ -1,6 +1,6 @@
 ghost use Rattle.std.specs.Prelude.{◌≡◌, ◌≤◌, ◌↔◌, [], Some, None, true, refl, IsErrOf, IfOk, OnOk, OnErr, IsOkUnless};
 ghost use Rattle.rf_world.specs.Fault.{HasCause, next_count};
-ghost use Rattle.rf_world.specs.World.{AreApart, AreDistinct, content, paths_under, with_file};
+ghost use Rattle.rf_world.specs.World.{AreApart, AreDistinct, IsWritten, content, paths_under, with_file};
 
 use crate::{World, WorldErr, mem_files};
 use rf_text::{Bytes, List, Memory};
@@ -37,7 +37,7 @@ impl HonestWorld {
     }
 
     /// Adds one file or replaces its bytes.
-    #[tactic(auto, using(crate::proofs::Apart::with_file_apart))]
+    #[tactic(auto, using(crate::proofs::Apart::with_file_apart, crate::proofs::Written::with_file_written))]
     pub fn put_file(
         &mut self,
         alloc: Global,
@@ -46,7 +46,10 @@ impl HonestWorld {
         bytes: &[u8],
     ) -> Result<(), Memory>
         ensures ok { OnOk result
-            (honest_files self.new ≡ with_file root.now path.now bytes.now (honest_files self.old)) }
+            (honest_files self.new
+            ≡ with_file root.now path.now bytes.now (honest_files self.old)) }
+        ensures written { OnOk result
+            (IsWritten root.now path.now bytes.now (honest_files self.old) (honest_files self.new)) }
         ensures err { OnErr result (honest_files self.new ≡ honest_files self.old) }
         ensures same_reads { absent_reads self.new ≡ absent_reads self.old }
     {
@@ -80,7 +83,8 @@ impl World for HonestWorld {
 
     /// It fails exactly where the file is not there.
     fn read(&mut self, alloc: Global, root: &[u8], path: &[u8]) -> Result<Bytes, WorldErr>
-        ensures ok { IfOk result (λ bytes. content root.now path.now (honest_files self.old) ≡ Some bytes) }
+        ensures ok { IfOk result
+            (λ bytes. content root.now path.now (honest_files self.old) ≡ Some bytes) }
         ensures failed { IsErrOf result WorldErr.Failed
             ↔ (content root.now path.now (honest_files self.old) ≡ None) }
         ensures cause { HasCause WorldErr.Failed WorldErr.Memory
@@ -109,7 +113,8 @@ impl World for HonestWorld {
         bytes: &[u8],
     ) -> Result<(), WorldErr>
         ensures ok { OnOk result
-            (honest_files self.new ≡ with_file root.now path.now bytes.now (honest_files self.old)) }
+            (honest_files self.new
+            ≡ with_file root.now path.now bytes.now (honest_files self.old)) }
         ensures err { OnErr result (honest_files self.new ≡ honest_files self.old) }
         ensures memory { IsOkUnless result WorldErr.Memory }
         ensures same_reads { absent_reads self.new ≡ absent_reads self.old }

@@ -1,6 +1,6 @@
 ghost use Rattle.std.specs.Prelude.{◌≡◌, ◌+◌, ◌/◌, ◌≤◌, ◌↔◌, ◌⊎◌, [], Some, None, false, refl, IsTrue, IsErr, IsErrOf, IfOk, OnOk, OnErr, length, take};
 ghost use Rattle.rf_world.specs.Fault.{HasCause, next_count};
-ghost use Rattle.rf_world.specs.World.{AreApart, AreDistinct, content, paths_under, with_file};
+ghost use Rattle.rf_world.specs.World.{AreApart, AreDistinct, IsWritten, content, paths_under, with_file};
 
 use crate::{World, WorldErr, mem_files};
 use rf_text::{Bytes, List, Memory};
@@ -46,7 +46,7 @@ impl MemWorld {
     }
 
     /// Adds one file or replaces its bytes. This is no call of the world.
-    #[tactic(auto, using(crate::proofs::Apart::with_file_apart))]
+    #[tactic(auto, using(crate::proofs::Apart::with_file_apart, crate::proofs::Written::with_file_written))]
     pub fn put_file(
         &mut self,
         alloc: Global,
@@ -56,6 +56,8 @@ impl MemWorld {
     ) -> Result<(), Memory>
         ensures ok { OnOk result
             (world_files self.new ≡ with_file root.now path.now bytes.now (world_files self.old)) }
+        ensures written { OnOk result
+            (IsWritten root.now path.now bytes.now (world_files self.old) (world_files self.new)) }
         ensures err { OnErr result (world_files self.new ≡ world_files self.old) }
         ensures same { KeepsCounts self.old self.new }
     {
@@ -76,7 +78,8 @@ impl MemWorld {
     fn fail_read(&mut self) -> WorldErr
         ensures failed { result ≡ WorldErr.Failed }
         ensures later { self.old.read_faults ≤ self.new.read_faults }
-        ensures rest { self.new ≡ record self.old { read_faults = next_count self.old.read_faults } }
+        ensures rest { self.new
+            ≡ record self.old { read_faults = next_count self.old.read_faults } }
     {
         self.read_faults = self.read_faults.saturating_add(1);
         WorldErr::Failed
@@ -117,7 +120,8 @@ impl World for MemWorld {
 
     /// It fails exactly where it is a failing call or the file is not there.
     fn read(&mut self, alloc: Global, root: &[u8], path: &[u8]) -> Result<Bytes, WorldErr>
-        ensures ok { IfOk result (λ bytes. content root.now path.now (world_files self.old) ≡ Some bytes) }
+        ensures ok { IfOk result
+            (λ bytes. content root.now path.now (world_files self.old) ≡ Some bytes) }
         ensures failed { IsErrOf result WorldErr.Failed
             ↔ (FailsNext self.old ⊎ (content root.now path.now (world_files self.old) ≡ None)) }
         ensures cause { HasCause WorldErr.Failed WorldErr.Memory
@@ -152,7 +156,8 @@ impl World for MemWorld {
         ensures half { IsErrOf result WorldErr.Failed
             → world_files self.new ≡ with_file root.now path.now
             (take (length bytes.now / 2) bytes.now) (world_files self.old) }
-        ensures unchanged { IsErrOf result WorldErr.Memory → world_files self.new ≡ world_files self.old }
+        ensures unchanged { IsErrOf result WorldErr.Memory
+            → world_files self.new ≡ world_files self.old }
         ensures fails { FailsNext self.old → IsErr result }
         ensures failed { IsErrOf result WorldErr.Failed → FailsNext self.old }
         ensures cause { HasCause WorldErr.Failed WorldErr.Memory

@@ -59,8 +59,8 @@ pub trait Sink {
     fn put(&mut self, alloc: Global, bytes: &[u8]) -> Result<(), SinkErr>
         ensures ok { OnOk result
             (told self.new ≡ option_map (λ taken. taken ++ bytes.now) (told self.old)) }
-        ensures err { OnErr result ((count : ℕ)
-            × (told self.new ≡ option_map (λ taken. taken ++ take count bytes.now) (told self.old))) }
+        ensures err { OnErr result ((count : ℕ) × (told self.new
+            ≡ option_map (λ taken. taken ++ take count bytes.now) (told self.old))) }
         ensures cause { HasCause SinkErr.Failed SinkErr.Memory
             (faults self.old) (faults self.new) result };
 }
