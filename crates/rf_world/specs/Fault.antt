@@ -20,3 +20,9 @@ pub record HasCause {T E : Type 0}
   pub failed : IsErrOf result fault → Rose before now
   pub kept : OnOk result (now ≡ before)
   pub kept_memory : IsErrOf result memory → now ≡ before
+
+-- and it goes up by one where the call failed
+pub record CountsFaults {T E : Type 0}
+    (fault memory : E) (before now : ℕ) (result : Result T E) : Type 0 where
+  pub cause : HasCause fault memory before now result
+  pub counted : IsErrOf result fault → now ≡ next_count before

@@ -1,5 +1,5 @@
-ghost use Rattle.std.specs.Prelude.{◌≡◌, ◌≤◌, ◌↔◌, [], Some, None, true, refl, IsErrOf, IfOk, OnOk, OnErr, IsOkUnless};
-ghost use Rattle.rf_world.specs.Fault.{HasCause, next_count};
+ghost use Rattle.std.specs.Prelude.{◌≡◌, ◌↔◌, [], Some, None, true, refl, IsErrOf, IfOk, OnOk, OnErr, IsOkUnless};
+ghost use Rattle.rf_world.specs.Fault.{CountsFaults};
 ghost use Rattle.rf_world.specs.World.{AreApart, AreDistinct, IsWritten, content, paths_under, with_file};
 
 use crate::{World, WorldErr, mem_files};
@@ -87,11 +87,8 @@ impl World for HonestWorld {
             (λ bytes. content root.now path.now (honest_files self.old) ≡ Some bytes) }
         ensures failed { IsErrOf result WorldErr.Failed
             ↔ (content root.now path.now (honest_files self.old) ≡ None) }
-        ensures cause { HasCause WorldErr.Failed WorldErr.Memory
+        ensures counts { CountsFaults WorldErr.Failed WorldErr.Memory
             (absent_reads self.old) (absent_reads self.new) result }
-        ensures counted { IsErrOf result WorldErr.Failed
-            → absent_reads self.new ≡ next_count (absent_reads self.old) }
-
         ensures same_files { honest_files self.new ≡ honest_files self.old }
     {
         match mem_files::find(&self.files, root, path) {

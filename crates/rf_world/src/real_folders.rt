@@ -1,5 +1,5 @@
 //! The folders of the system, read for the paths of the files below a root.
-ghost use Rattle.std.specs.Prelude.{◌≡◌, ◌+◌, ◌≤◌, IfOk, vec_len};
+ghost use Rattle.std.specs.Prelude.{◌+◌, ◌≤◌, IfOk, vec_len};
 ghost use Rattle.rf_world.specs.World.{AreDistinct};
 
 use crate::WorldErr;

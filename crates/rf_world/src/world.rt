@@ -1,4 +1,4 @@
-ghost use Rattle.std.specs.Prelude.{◌≡◌, ℕ, Bool, List as Items, Option, Some, None, ◌⊎◌, IsTrue, IsErrOf, IfOk, OnOk, OnErr, IfSome, IsSome, option_map};
+ghost use Rattle.std.specs.Prelude.{◌≡◌, ℕ, Bool, List as Items, Option, Some, None, IsTrue, IsErrOf, IfOk, OnOk, OnErr, IfSome, IsSome, option_map};
 ghost use Rattle.rf_world.specs.Fault.{HasCause};
 ghost use Rattle.rf_world.specs.World.{File, AreApart, AreDistinct, MayHoldPrefix, content, paths_under, with_file};
 
