@@ -20,7 +20,7 @@ record SamePlace (file other : File) : Type 0 where
   path : file.1 ≡ other.1
 
 -- a file that is at a root and path has them
-is_at-sound : (root path : List ℕ) (file : File) → is_at root path file ≡ true → (file.0 ≡ root) × (file.1 ≡ path)
+pub is_at-sound : (root path : List ℕ) (file : File) → is_at root path file ≡ true → (file.0 ≡ root) × (file.1 ≡ path)
 is_at-sound root path file found = grind (arith, (bytes_eq-Decides file.0 root).0, (bytes_eq-Decides file.1 path).0)
 
 -- a file in the place of one at the same root and path leaves each root and path as it was

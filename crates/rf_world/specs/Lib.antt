@@ -1,3 +1,4 @@
-pub mod World
+pub mod Calls
 pub mod Fault
 pub mod Memory
+pub mod World

@@ -1,7 +1,8 @@
--- What the worlds and sinks in memory hold, and which of their calls fail.
-use Rattle.std.specs.Prelude.{◌≡◌, ℕ, List, Contains}
-use Rattle.rf_world.specs.Fault.{next_count}
+-- What the worlds and sinks in memory hold and count.
+use Rattle.std.specs.Prelude.{◌≡◌, ℕ, List}
+use Rattle.rf_world.specs.Calls.{CountsOneCall}
 use Rattle.rf_world.specs.World.{File}
+use Rattle.rf_world.specs.declared.calls.Calls.{Calls}
 use Rattle.rf_world.specs.declared.honest_sink.HonestSink.{HonestSink}
 use Rattle.rf_world.specs.declared.honest_world.HonestWorld.{HonestWorld}
 use Rattle.rf_world.specs.declared.mem_sink.MemSink.{MemSink}
@@ -11,13 +12,9 @@ use Rattle.rf_world.specs.declared.mem_world.MemWorld.{MemWorld}
 abbrev pub world_files : MemWorld → List File
 world_files world = world.files
 
--- the numbers of the calls that fail
-abbrev pub failing_calls : MemWorld → List ℕ
-failing_calls world = world.failing
-
--- how many calls were made, which is the number of the next call
-abbrev pub calls_made : MemWorld → ℕ
-calls_made world = world.calls
+-- the calls of `list`, `read` and `write`
+abbrev pub world_calls : MemWorld → Calls
+world_calls world = world.calls
 
 -- how many calls of `list` and `read` failed
 abbrev pub failed_reads : MemWorld → ℕ
@@ -27,19 +24,15 @@ failed_reads world = world.read_faults
 abbrev pub failed_writes : MemWorld → ℕ
 failed_writes world = world.write_faults
 
--- the next call is one of those that fail
-abbrev pub FailsNext : MemWorld → Type 0
-FailsNext world = Contains (failing_calls world) (calls_made world)
+-- one more call was made, which changed no file and failed no write
+pub record LooksOnly (old new : MemWorld) : Type 0 where
+  pub files : world_files new ≡ world_files old
+  pub call : CountsOneCall (world_calls old) (world_calls new)
+  pub writes : failed_writes new ≡ failed_writes old
 
--- the list of failing calls stands, and one more call was made
-pub record CountsOneCall (old new : MemWorld) : Type 0 where
-  pub failing : failing_calls new ≡ failing_calls old
-  pub calls : calls_made new ≡ next_count (calls_made old)
-
--- the list of failing calls and all counts stand
+-- no call was made, and all counts stand
 pub record KeepsCounts (old new : MemWorld) : Type 0 where
-  pub failing : failing_calls new ≡ failing_calls old
-  pub calls : calls_made new ≡ calls_made old
+  pub calls : world_calls new ≡ world_calls old
   pub reads : failed_reads new ≡ failed_reads old
   pub writes : failed_writes new ≡ failed_writes old
 
@@ -47,21 +40,13 @@ pub record KeepsCounts (old new : MemWorld) : Type 0 where
 abbrev pub sink_bytes : MemSink → List ℕ
 sink_bytes sink = sink.bytes
 
--- the numbers of the puts that fail
-abbrev pub failing_puts : MemSink → List ℕ
-failing_puts sink = sink.failing
+-- the calls of `put`
+abbrev pub sink_calls : MemSink → Calls
+sink_calls sink = sink.calls
 
--- how many puts were made, which is the number of the next put
-abbrev pub puts_made : MemSink → ℕ
-puts_made sink = sink.calls
-
--- how many puts failed
+-- how many calls of `put` failed
 abbrev pub failed_puts : MemSink → ℕ
 failed_puts sink = sink.faults
-
--- the next put is one of those that fail
-abbrev pub PutFailsNext : MemSink → Type 0
-PutFailsNext sink = Contains (failing_puts sink) (puts_made sink)
 
 -- the files of an honest world, in the order in which each was first put
 abbrev pub honest_files : HonestWorld → List File

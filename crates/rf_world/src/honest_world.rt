@@ -1,12 +1,13 @@
-ghost use Rattle.std.specs.Prelude.{◌≡◌, ◌≤◌, ◌↔◌, [], Some, None, true, refl, IsErrOf, IfOk, OnOk, OnErr, IsOkUnless};
-ghost use Rattle.rf_world.specs.Fault.{HasCause, next_count};
-ghost use Rattle.rf_world.specs.World.{AreApart, AreDistinct, content, paths_under, with_file};
+ghost use Rattle.std.specs.Prelude.{◌≡◌, ◌↔◌, [], Some, None, true, refl, IsErrOf, IfOk, OnOk, OnErr, IsOkUnless};
+ghost use Rattle.rf_world.specs.Fault.{CountsFaults};
+ghost use Rattle.rf_world.specs.World.{AreApart, AreDistinct, IsWritten, content, paths_under, with_file};
 
 use crate::{World, WorldErr, mem_files};
 use rf_text::{Bytes, List, Memory};
 use std::alloc::Global;
 
-/// A world in memory, which tells its files, and of which only a read of a file that is not there fails.
+/// A world in memory, which tells its files.
+/// Only a read of a file that is not there fails.
 #[derive(Debug, Drop)]
 pub struct HonestWorld {
     files: List<(Bytes, Bytes, Bytes)>,
@@ -36,7 +37,7 @@ impl HonestWorld {
     }
 
     /// Adds one file or replaces its bytes.
-    #[tactic(auto, using(crate::proofs::Apart::with_file_apart))]
+    #[tactic(auto, using(crate::proofs::Apart::with_file_apart, crate::proofs::Written::with_file_written))]
     pub fn put_file(
         &mut self,
         alloc: Global,
@@ -45,7 +46,10 @@ impl HonestWorld {
         bytes: &[u8],
     ) -> Result<(), Memory>
         ensures ok { OnOk result
-            (honest_files self.new ≡ with_file root.now path.now bytes.now (honest_files self.old)) }
+            (honest_files self.new
+            ≡ with_file root.now path.now bytes.now (honest_files self.old)) }
+        ensures written { OnOk result
+            (IsWritten root.now path.now bytes.now (honest_files self.old) (honest_files self.new)) }
         ensures err { OnErr result (honest_files self.new ≡ honest_files self.old) }
         ensures same_reads { absent_reads self.new ≡ absent_reads self.old }
     {
@@ -79,6 +83,7 @@ impl World for HonestWorld {
 
     /// It fails exactly where the file is not there.
     fn read(&mut self, alloc: Global, root: &[u8], path: &[u8]) -> Result<Bytes, WorldErr>
+<<<<<<< HEAD
         ensures ok { IfOk result (λ bytes. content root.now path.now (honest_files self.old) ≡ Some bytes) }
         ensures failed { IsErrOf result WorldErr.Failed
             ↔ (content root.now path.now (honest_files self.old) ≡ None) }
@@ -87,6 +92,14 @@ impl World for HonestWorld {
         ensures counted { IsErrOf result WorldErr.Failed
             → absent_reads self.new ≡ next_count (absent_reads self.old) }
 
+=======
+        ensures ok { IfOk result
+            (λ bytes. content root.now path.now (honest_files self.old) ≡ Some bytes) }
+        ensures failed { IsErrOf result WorldErr.Failed
+            ↔ (content root.now path.now (honest_files self.old) ≡ None) }
+        ensures counts { CountsFaults WorldErr.Failed WorldErr.Memory
+            (absent_reads self.old) (absent_reads self.new) result }
+>>>>>>> b00aec0e293f66ecd53c9a134f51d1ed09bdc703
         ensures same_files { honest_files self.new ≡ honest_files self.old }
     {
         match mem_files::find(&self.files, root, path) {
@@ -108,7 +121,8 @@ impl World for HonestWorld {
         bytes: &[u8],
     ) -> Result<(), WorldErr>
         ensures ok { OnOk result
-            (honest_files self.new ≡ with_file root.now path.now bytes.now (honest_files self.old)) }
+            (honest_files self.new
+            ≡ with_file root.now path.now bytes.now (honest_files self.old)) }
         ensures err { OnErr result (honest_files self.new ≡ honest_files self.old) }
         ensures memory { IsOkUnless result WorldErr.Memory }
         ensures same_reads { absent_reads self.new ≡ absent_reads self.old }

@@ -2,6 +2,7 @@
 //! A call may fail only where a count of the object that was called rises with it.
 #![tactic(auto)]
 
+mod calls;
 mod honest_sink;
 mod honest_world;
 mod mem_files;

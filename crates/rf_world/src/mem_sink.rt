@@ -1,34 +1,34 @@
-ghost use Rattle.std.specs.Prelude.{◌≡◌, ◌↔◌, [], ◌++◌, Some, IsTrue, IsErrOf, OnOk, OnErr};
-ghost use Rattle.rf_world.specs.Fault.{HasCause, next_count};
+ghost use Rattle.std.specs.Prelude.{◌≡◌, ◌↔◌, [], ◌++◌, Some, IsErrOf, OnOk, OnErr};
+ghost use Rattle.rf_world.specs.Fault.{CountsFaults};
 
+use crate::calls::Calls;
 use crate::{Sink, SinkErr};
 use rf_text::{Bytes, List};
 use std::alloc::Global;
 
 /// A sink in memory, which tells its bytes, and of which chosen calls fail.
-/// The calls of `put` are numbered from 0, and those that fail count too.
+/// The calls of `put` are numbered from 0 in their order, failed ones too.
 #[derive(Debug, Drop)]
 pub struct MemSink {
     bytes: Bytes,
-    failing: List<u64>,
-    calls: u64,
+    calls: Calls,
     faults: u64,
 }
 
 impl MemSink {
-    ghost use Rattle.rf_world.specs.Memory.{PutFailsNext, failed_puts, failing_puts, puts_made, sink_bytes};
+    ghost use Rattle.rf_world.specs.Calls.{calls_made, failing_calls};
+    ghost use Rattle.rf_world.specs.Memory.{failed_puts, sink_bytes, sink_calls};
 
     /// A sink with no bytes, whose calls with a number in `failing` fail.
     pub fn new(alloc: Global, failing: List<u64>) -> MemSink
         ensures bytes { sink_bytes result ≡ [] }
-        ensures failing { failing_puts result ≡ failing }
-        ensures puts { puts_made result ≡ 0 }
+        ensures failing { failing_calls (sink_calls result) ≡ failing }
+        ensures calls { calls_made (sink_calls result) ≡ 0 }
         ensures failed { failed_puts result ≡ 0 }
     {
         MemSink {
             bytes: Bytes::new(alloc),
-            failing,
-            calls: 0,
+            calls: Calls::new(failing),
             faults: 0,
         }
     }
@@ -39,20 +39,11 @@ impl MemSink {
     {
         &self.bytes
     }
-
-    /// Counts one more call, and says whether that call fails.
-    fn begin_call(&mut self) -> bool
-        ensures fails { IsTrue result ↔ PutFailsNext self.old }
-        ensures rest { self.new ≡ record self.old { calls = next_count self.old.calls } }
-    {
-        let fails = self.failing.as_slice().contains(&self.calls);
-        self.calls = self.calls.saturating_add(1);
-        fails
-    }
 }
 
 impl Sink for MemSink {
-    ghost use Rattle.rf_world.specs.Memory.{PutFailsNext, failed_puts, failing_puts, puts_made, sink_bytes};
+    ghost use Rattle.rf_world.specs.Calls.{CountsOneCall, FailsNext};
+    ghost use Rattle.rf_world.specs.Memory.{failed_puts, sink_bytes, sink_calls};
 
     ghost told = { λ sink. Some sink.bytes };
 
@@ -62,6 +53,7 @@ impl Sink for MemSink {
     fn put(&mut self, _alloc: Global, bytes: &[u8]) -> Result<(), SinkErr>
         ensures ok { OnOk result (sink_bytes self.new ≡ sink_bytes self.old ++ bytes.now) }
         ensures err { OnErr result (sink_bytes self.new ≡ sink_bytes self.old) }
+<<<<<<< HEAD
         ensures failed { IsErrOf result SinkErr.Failed ↔ PutFailsNext self.old }
         ensures cause { HasCause SinkErr.Failed SinkErr.Memory
             (failed_puts self.old) (failed_puts self.new) result }
@@ -70,8 +62,14 @@ impl Sink for MemSink {
 
         ensures call { puts_made self.new ≡ next_count (puts_made self.old) }
         ensures same_failing { failing_puts self.new ≡ failing_puts self.old }
+=======
+        ensures failed { IsErrOf result SinkErr.Failed ↔ FailsNext (sink_calls self.old) }
+        ensures counts { CountsFaults SinkErr.Failed SinkErr.Memory
+            (failed_puts self.old) (failed_puts self.new) result }
+        ensures call { CountsOneCall (sink_calls self.old) (sink_calls self.new) }
+>>>>>>> b00aec0e293f66ecd53c9a134f51d1ed09bdc703
     {
-        if self.begin_call() {
+        if self.calls.begin() {
             self.faults = self.faults.saturating_add(1);
             return Err(SinkErr::Failed);
         }

@@ -1,38 +1,38 @@
-ghost use Rattle.std.specs.Prelude.{◌≡◌, ◌+◌, ◌/◌, ◌≤◌, ◌↔◌, ◌⊎◌, [], Some, None, false, refl, IsTrue, IsErr, IsErrOf, IfOk, OnOk, OnErr, length, take};
-ghost use Rattle.rf_world.specs.Fault.{HasCause, next_count};
-ghost use Rattle.rf_world.specs.World.{AreApart, AreDistinct, content, paths_under, with_file};
+ghost use Rattle.std.specs.Prelude.{◌≡◌, ◌/◌, ◌≤◌, ◌↔◌, ◌⊎◌, [], Some, None, false, refl, IsErr, IsErrOf, IfOk, OnOk, OnErr, length, take};
+ghost use Rattle.rf_world.specs.Fault.{CountsFaults, next_count};
+ghost use Rattle.rf_world.specs.World.{AreApart, AreDistinct, IsWritten, content, paths_under, with_file};
 
+use crate::calls::Calls;
 use crate::{World, WorldErr, mem_files};
 use rf_text::{Bytes, List, Memory};
 use std::alloc::Global;
 
 /// A world in memory, which tells its files, and of which chosen calls fail.
-/// The calls of `list`, `read` and `write` are numbered from 0 in their order, and those that fail count too.
+/// The calls of `list`, `read` and `write` are numbered from 0 in their order, failed ones too.
 #[derive(Debug, Drop)]
 pub struct MemWorld {
     files: List<(Bytes, Bytes, Bytes)>,
-    failing: List<u64>,
-    calls: u64,
+    calls: Calls,
     read_faults: u64,
     write_faults: u64,
     ghost apart: { AreApart files },
 }
 
 impl MemWorld {
-    ghost use Rattle.rf_world.specs.Memory.{FailsNext, KeepsCounts, calls_made, failed_reads, failed_writes, failing_calls, world_files};
+    ghost use Rattle.rf_world.specs.Calls.{calls_made, failing_calls};
+    ghost use Rattle.rf_world.specs.Memory.{KeepsCounts, failed_reads, failed_writes, world_calls, world_files};
 
     /// A world with no files, whose calls with a number in `failing` fail.
     pub fn new(alloc: Global, failing: List<u64>) -> MemWorld
         ensures files { world_files result ≡ [] }
-        ensures failing { failing_calls result ≡ failing }
-        ensures calls { calls_made result ≡ 0 }
+        ensures failing { failing_calls (world_calls result) ≡ failing }
+        ensures calls { calls_made (world_calls result) ≡ 0 }
         ensures reads { failed_reads result ≡ 0 }
         ensures writes { failed_writes result ≡ 0 }
     {
         MemWorld {
             files: List::new(alloc),
-            failing,
-            calls: 0,
+            calls: Calls::new(failing),
             read_faults: 0,
             write_faults: 0,
         }
@@ -46,7 +46,7 @@ impl MemWorld {
     }
 
     /// Adds one file or replaces its bytes. This is no call of the world.
-    #[tactic(auto, using(crate::proofs::Apart::with_file_apart))]
+    #[tactic(auto, using(crate::proofs::Apart::with_file_apart, crate::proofs::Written::with_file_written))]
     pub fn put_file(
         &mut self,
         alloc: Global,
@@ -56,27 +56,20 @@ impl MemWorld {
     ) -> Result<(), Memory>
         ensures ok { OnOk result
             (world_files self.new ≡ with_file root.now path.now bytes.now (world_files self.old)) }
+        ensures written { OnOk result
+            (IsWritten root.now path.now bytes.now (world_files self.old) (world_files self.new)) }
         ensures err { OnErr result (world_files self.new ≡ world_files self.old) }
         ensures same { KeepsCounts self.old self.new }
     {
         mem_files::put(alloc, &mut self.files, root, path, bytes)
     }
 
-    /// Counts one more call, and says whether that call fails.
-    fn begin_call(&mut self) -> bool
-        ensures fails { IsTrue result ↔ FailsNext self.old }
-        ensures rest { self.new ≡ record self.old { calls = next_count self.old.calls } }
-    {
-        let fails = self.failing.as_slice().contains(&self.calls);
-        self.calls = self.calls.saturating_add(1);
-        fails
-    }
-
     /// Counts a failed `list` or `read`.
     fn fail_read(&mut self) -> WorldErr
         ensures failed { result ≡ WorldErr.Failed }
         ensures later { self.old.read_faults ≤ self.new.read_faults }
-        ensures rest { self.new ≡ record self.old { read_faults = next_count self.old.read_faults } }
+        ensures rest { self.new
+            ≡ record self.old { read_faults = next_count self.old.read_faults } }
     {
         self.read_faults = self.read_faults.saturating_add(1);
         WorldErr::Failed
@@ -84,7 +77,8 @@ impl MemWorld {
 }
 
 impl World for MemWorld {
-    ghost use Rattle.rf_world.specs.Memory.{CountsOneCall, FailsNext, failed_reads, failed_writes, world_files};
+    ghost use Rattle.rf_world.specs.Calls.{CountsOneCall, FailsNext};
+    ghost use Rattle.rf_world.specs.Memory.{LooksOnly, failed_reads, failed_writes, world_calls, world_files};
 
     ghost told = { λ world. Some world.files };
 
@@ -99,6 +93,7 @@ impl World for MemWorld {
     fn list(&mut self, alloc: Global, root: &[u8]) -> Result<List<Bytes>, WorldErr>
         ensures ok { IfOk result (λ paths. paths ≡ paths_under root.now (world_files self.old)) }
         ensures once { IfOk result AreDistinct }
+<<<<<<< HEAD
         ensures failed { IsErrOf result WorldErr.Failed ↔ FailsNext self.old }
         ensures cause { HasCause WorldErr.Failed WorldErr.Memory
             (failed_reads self.old) (failed_reads self.new) result }
@@ -108,8 +103,14 @@ impl World for MemWorld {
         ensures call { CountsOneCall self.old self.new }
         ensures same_files { world_files self.new ≡ world_files self.old }
         ensures same_writes { failed_writes self.new ≡ failed_writes self.old }
+=======
+        ensures failed { IsErrOf result WorldErr.Failed ↔ FailsNext (world_calls self.old) }
+        ensures counts { CountsFaults WorldErr.Failed WorldErr.Memory
+            (failed_reads self.old) (failed_reads self.new) result }
+        ensures looks { LooksOnly self.old self.new }
+>>>>>>> b00aec0e293f66ecd53c9a134f51d1ed09bdc703
     {
-        if self.begin_call() {
+        if self.calls.begin() {
             return Err(self.fail_read());
         }
         Ok(mem_files::paths(alloc, &self.files, root)?)
@@ -117,8 +118,10 @@ impl World for MemWorld {
 
     /// It fails exactly where it is a failing call or the file is not there.
     fn read(&mut self, alloc: Global, root: &[u8], path: &[u8]) -> Result<Bytes, WorldErr>
-        ensures ok { IfOk result (λ bytes. content root.now path.now (world_files self.old) ≡ Some bytes) }
+        ensures ok { IfOk result
+            (λ bytes. content root.now path.now (world_files self.old) ≡ Some bytes) }
         ensures failed { IsErrOf result WorldErr.Failed
+<<<<<<< HEAD
             ↔ (FailsNext self.old ⊎ (content root.now path.now (world_files self.old) ≡ None)) }
         ensures cause { HasCause WorldErr.Failed WorldErr.Memory
             (failed_reads self.old) (failed_reads self.new) result }
@@ -128,8 +131,14 @@ impl World for MemWorld {
         ensures call { CountsOneCall self.old self.new }
         ensures same_files { world_files self.new ≡ world_files self.old }
         ensures same_writes { failed_writes self.new ≡ failed_writes self.old }
+=======
+            ↔ (FailsNext (world_calls self.old) ⊎ (content root.now path.now (world_files self.old) ≡ None)) }
+        ensures counts { CountsFaults WorldErr.Failed WorldErr.Memory
+            (failed_reads self.old) (failed_reads self.new) result }
+        ensures looks { LooksOnly self.old self.new }
+>>>>>>> b00aec0e293f66ecd53c9a134f51d1ed09bdc703
     {
-        if self.begin_call() {
+        if self.calls.begin() {
             return Err(self.fail_read());
         }
         match mem_files::find(&self.files, root, path) {
@@ -152,6 +161,7 @@ impl World for MemWorld {
         ensures half { IsErrOf result WorldErr.Failed
             → world_files self.new ≡ with_file root.now path.now
             (take (length bytes.now / 2) bytes.now) (world_files self.old) }
+<<<<<<< HEAD
         ensures unchanged { IsErrOf result WorldErr.Memory → world_files self.new ≡ world_files self.old }
         ensures fails { FailsNext self.old → IsErr result }
         ensures failed { IsErrOf result WorldErr.Failed → FailsNext self.old }
@@ -164,6 +174,18 @@ impl World for MemWorld {
         ensures same_reads { failed_reads self.new ≡ failed_reads self.old }
     {
         let fails = self.begin_call();
+=======
+        ensures unchanged { IsErrOf result WorldErr.Memory
+            → world_files self.new ≡ world_files self.old }
+        ensures fails { FailsNext (world_calls self.old) → IsErr result }
+        ensures failed { IsErrOf result WorldErr.Failed → FailsNext (world_calls self.old) }
+        ensures counts { CountsFaults WorldErr.Failed WorldErr.Memory
+            (failed_writes self.old) (failed_writes self.new) result }
+        ensures call { CountsOneCall (world_calls self.old) (world_calls self.new) }
+        ensures same_reads { failed_reads self.new ≡ failed_reads self.old }
+    {
+        let fails = self.calls.begin();
+>>>>>>> b00aec0e293f66ecd53c9a134f51d1ed09bdc703
         let stored = if fails {
             &bytes[..bytes.len() / 2]
         } else {

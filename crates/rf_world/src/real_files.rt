@@ -4,12 +4,13 @@ use crate::WorldErr;
 use crate::real_paths::{fault, full_path};
 use rf_text::Bytes;
 use std::alloc::Global;
+use std::fs::OpenFile;
 use std::io::{ErrorKind, Read, Write};
 use std::rt::Files;
 use std::{fs, io};
 
 /// The most bytes of a file that is read.
-const MOST_BYTES: usize = 1_073_741_824;
+const MOST_BYTES: u64 = 1_073_741_824;
 
 /// The bytes of the file, up to where no byte comes.
 pub(crate) fn read<R: Files>(
@@ -20,11 +21,14 @@ pub(crate) fn read<R: Files>(
 ) -> Result<Bytes, WorldErr> {
     let path = full_path(alloc, root, path)?;
     let file = fs::open(rt, path.as_str()).map_err(fault)?;
-    let mut bytes = Vec::new(alloc);
-    file.take(MOST_BYTES as u64 + 1)
+    let size = file.metadata().map_or(0, |metadata| metadata.len());
+    // One more than the file's size, so that its end is found with no further room.
+    let mut bytes = Vec::with_capacity(alloc, size.min(MOST_BYTES) as usize + 1)?;
+    let count = file
+        .take(MOST_BYTES + 1)
         .read_to_end(&mut bytes)
         .map_err(fault)?;
-    if bytes.len() > MOST_BYTES {
+    if count as u64 > MOST_BYTES {
         return Err(WorldErr::Failed);
     }
     Ok(Bytes::from_vec(bytes))

@@ -1,5 +1,5 @@
 //! The folders of the system, read for the paths of the files below a root.
-ghost use Rattle.std.specs.Prelude.{◌≡◌, ◌+◌, ◌≤◌, IfOk, vec_len};
+ghost use Rattle.std.specs.Prelude.{◌+◌, ◌≤◌, IfOk, vec_len};
 ghost use Rattle.rf_world.specs.World.{AreDistinct};
 
 use crate::WorldErr;
@@ -67,7 +67,7 @@ impl Walk {
     }
 
     /// Lists a file, also one that a link leads to, and notes a folder to be read later.
-    /// A link to a folder is passed over, and so is all else, as a pipe or a link that leads nowhere.
+    /// A link to a folder is passed over, and so is a pipe, or a link that leads nowhere.
     fn add_entry<R: Files + AllocGlobal + Clone + Drop>(
         &mut self,
         rt: &R,

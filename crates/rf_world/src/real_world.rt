@@ -6,11 +6,13 @@ use rf_text::{Bytes, List};
 use std::alloc::Global;
 use std::rt::Files;
 
-/// The files of the system: a root is a folder, and a path goes down from it. An empty root means the path alone.
+/// The files of the system: a root is a folder, and a path goes down from it.
+/// An empty root means the path alone.
 ///
-/// It tells nothing of the files. A call fails where the system does, and where a root, a path or a name that is
-/// listed is not UTF-8. `list` fails past 1,000,000 names, and `read` past 1,073,741,824 bytes.
-/// `list` follows a link to a file and no link to a folder; it lists files alone. `write` makes missing folders.
+/// It tells nothing of the files. A call fails where the system does, and where a root, a path or
+/// a name that is listed is not UTF-8. `list` fails past 1,000,000 names, and `read` past
+/// 1,073,741,824 bytes. `list` gives files alone: it follows a link to a file, and passes over
+/// links to folders and all else. `write` makes missing folders.
 #[derive(Drop)]
 pub struct RealWorld<'a, R: Files + AllocGlobal + Clone + Drop> {
     rt: &'a R,

@@ -1,4 +1,4 @@
-ghost use Rattle.std.specs.Prelude.{◌≡◌, ℕ, Bool, List as Items, Option, Some, None, ◌⊎◌, IsTrue, IsErrOf, IfOk, OnOk, OnErr, IfSome, IsSome, option_map};
+ghost use Rattle.std.specs.Prelude.{◌≡◌, ℕ, Bool, List as Items, Option, Some, None, IsTrue, IsErrOf, IfOk, OnOk, OnErr, IfSome, IsSome, option_map};
 ghost use Rattle.rf_world.specs.Fault.{HasCause};
 ghost use Rattle.rf_world.specs.World.{File, AreApart, AreDistinct, MayHoldPrefix, content, paths_under, with_file};
 
@@ -47,7 +47,8 @@ impl<T: Drop> From<AllocFailed<T>> for WorldErr {
     }
 }
 
-/// Files by root and path: the root is where a tree of files stands, the path is relative to it, with `/`.
+/// Files by root and path: the root is where a tree of files stands, and the path goes down from
+/// it, with `/`.
 ///
 /// A world may tell its files, and then the clauses say what each call gives and does.
 /// It counts the reads and the writes that failed, up to 2^64 - 1.
@@ -90,7 +91,8 @@ pub trait World {
         ensures same_write_faults { write_faults self.new ≡ write_faults self.old }
         ensures same_honest { honest self.new ≡ honest self.old };
 
-    /// Adds one file or replaces its bytes. After an `Err` the file is as before or holds a prefix of `bytes`.
+    /// Adds one file or replaces its bytes.
+    /// After an `Err` that file is as before or holds a prefix of `bytes`, and all others stand.
     fn write(
         &mut self,
         alloc: Global,
