@@ -83,23 +83,12 @@ impl World for HonestWorld {
 
     /// It fails exactly where the file is not there.
     fn read(&mut self, alloc: Global, root: &[u8], path: &[u8]) -> Result<Bytes, WorldErr>
-<<<<<<< HEAD
-        ensures ok { IfOk result (λ bytes. content root.now path.now (honest_files self.old) ≡ Some bytes) }
-        ensures failed { IsErrOf result WorldErr.Failed
-            ↔ (content root.now path.now (honest_files self.old) ≡ None) }
-        ensures cause { HasCause WorldErr.Failed WorldErr.Memory
-            (absent_reads self.old) (absent_reads self.new) result }
-        ensures counted { IsErrOf result WorldErr.Failed
-            → absent_reads self.new ≡ next_count (absent_reads self.old) }
-
-=======
         ensures ok { IfOk result
             (λ bytes. content root.now path.now (honest_files self.old) ≡ Some bytes) }
         ensures failed { IsErrOf result WorldErr.Failed
             ↔ (content root.now path.now (honest_files self.old) ≡ None) }
         ensures counts { CountsFaults WorldErr.Failed WorldErr.Memory
             (absent_reads self.old) (absent_reads self.new) result }
->>>>>>> b00aec0e293f66ecd53c9a134f51d1ed09bdc703
         ensures same_files { honest_files self.new ≡ honest_files self.old }
     {
         match mem_files::find(&self.files, root, path) {

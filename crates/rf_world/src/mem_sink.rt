@@ -53,21 +53,10 @@ impl Sink for MemSink {
     fn put(&mut self, _alloc: Global, bytes: &[u8]) -> Result<(), SinkErr>
         ensures ok { OnOk result (sink_bytes self.new ≡ sink_bytes self.old ++ bytes.now) }
         ensures err { OnErr result (sink_bytes self.new ≡ sink_bytes self.old) }
-<<<<<<< HEAD
-        ensures failed { IsErrOf result SinkErr.Failed ↔ PutFailsNext self.old }
-        ensures cause { HasCause SinkErr.Failed SinkErr.Memory
-            (failed_puts self.old) (failed_puts self.new) result }
-        ensures counted { IsErrOf result SinkErr.Failed
-            → failed_puts self.new ≡ next_count (failed_puts self.old) }
-
-        ensures call { puts_made self.new ≡ next_count (puts_made self.old) }
-        ensures same_failing { failing_puts self.new ≡ failing_puts self.old }
-=======
         ensures failed { IsErrOf result SinkErr.Failed ↔ FailsNext (sink_calls self.old) }
         ensures counts { CountsFaults SinkErr.Failed SinkErr.Memory
             (failed_puts self.old) (failed_puts self.new) result }
         ensures call { CountsOneCall (sink_calls self.old) (sink_calls self.new) }
->>>>>>> b00aec0e293f66ecd53c9a134f51d1ed09bdc703
     {
         if self.calls.begin() {
             self.faults = self.faults.saturating_add(1);

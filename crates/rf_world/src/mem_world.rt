@@ -93,22 +93,10 @@ impl World for MemWorld {
     fn list(&mut self, alloc: Global, root: &[u8]) -> Result<List<Bytes>, WorldErr>
         ensures ok { IfOk result (λ paths. paths ≡ paths_under root.now (world_files self.old)) }
         ensures once { IfOk result AreDistinct }
-<<<<<<< HEAD
-        ensures failed { IsErrOf result WorldErr.Failed ↔ FailsNext self.old }
-        ensures cause { HasCause WorldErr.Failed WorldErr.Memory
-            (failed_reads self.old) (failed_reads self.new) result }
-        ensures counted { IsErrOf result WorldErr.Failed
-            → failed_reads self.new ≡ next_count (failed_reads self.old) }
-
-        ensures call { CountsOneCall self.old self.new }
-        ensures same_files { world_files self.new ≡ world_files self.old }
-        ensures same_writes { failed_writes self.new ≡ failed_writes self.old }
-=======
         ensures failed { IsErrOf result WorldErr.Failed ↔ FailsNext (world_calls self.old) }
         ensures counts { CountsFaults WorldErr.Failed WorldErr.Memory
             (failed_reads self.old) (failed_reads self.new) result }
         ensures looks { LooksOnly self.old self.new }
->>>>>>> b00aec0e293f66ecd53c9a134f51d1ed09bdc703
     {
         if self.calls.begin() {
             return Err(self.fail_read());
@@ -121,22 +109,10 @@ impl World for MemWorld {
         ensures ok { IfOk result
             (λ bytes. content root.now path.now (world_files self.old) ≡ Some bytes) }
         ensures failed { IsErrOf result WorldErr.Failed
-<<<<<<< HEAD
-            ↔ (FailsNext self.old ⊎ (content root.now path.now (world_files self.old) ≡ None)) }
-        ensures cause { HasCause WorldErr.Failed WorldErr.Memory
-            (failed_reads self.old) (failed_reads self.new) result }
-        ensures counted { IsErrOf result WorldErr.Failed
-            → failed_reads self.new ≡ next_count (failed_reads self.old) }
-
-        ensures call { CountsOneCall self.old self.new }
-        ensures same_files { world_files self.new ≡ world_files self.old }
-        ensures same_writes { failed_writes self.new ≡ failed_writes self.old }
-=======
             ↔ (FailsNext (world_calls self.old) ⊎ (content root.now path.now (world_files self.old) ≡ None)) }
         ensures counts { CountsFaults WorldErr.Failed WorldErr.Memory
             (failed_reads self.old) (failed_reads self.new) result }
         ensures looks { LooksOnly self.old self.new }
->>>>>>> b00aec0e293f66ecd53c9a134f51d1ed09bdc703
     {
         if self.calls.begin() {
             return Err(self.fail_read());
@@ -161,20 +137,6 @@ impl World for MemWorld {
         ensures half { IsErrOf result WorldErr.Failed
             → world_files self.new ≡ with_file root.now path.now
             (take (length bytes.now / 2) bytes.now) (world_files self.old) }
-<<<<<<< HEAD
-        ensures unchanged { IsErrOf result WorldErr.Memory → world_files self.new ≡ world_files self.old }
-        ensures fails { FailsNext self.old → IsErr result }
-        ensures failed { IsErrOf result WorldErr.Failed → FailsNext self.old }
-        ensures cause { HasCause WorldErr.Failed WorldErr.Memory
-            (failed_writes self.old) (failed_writes self.new) result }
-        ensures counted { IsErrOf result WorldErr.Failed
-            → failed_writes self.new ≡ next_count (failed_writes self.old) }
-
-        ensures call { CountsOneCall self.old self.new }
-        ensures same_reads { failed_reads self.new ≡ failed_reads self.old }
-    {
-        let fails = self.begin_call();
-=======
         ensures unchanged { IsErrOf result WorldErr.Memory
             → world_files self.new ≡ world_files self.old }
         ensures fails { FailsNext (world_calls self.old) → IsErr result }
@@ -185,7 +147,6 @@ impl World for MemWorld {
         ensures same_reads { failed_reads self.new ≡ failed_reads self.old }
     {
         let fails = self.calls.begin();
->>>>>>> b00aec0e293f66ecd53c9a134f51d1ed09bdc703
         let stored = if fails {
             &bytes[..bytes.len() / 2]
         } else {

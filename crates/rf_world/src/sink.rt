@@ -59,13 +59,8 @@ pub trait Sink {
     fn put(&mut self, alloc: Global, bytes: &[u8]) -> Result<(), SinkErr>
         ensures ok { OnOk result
             (told self.new ≡ option_map (λ taken. taken ++ bytes.now) (told self.old)) }
-<<<<<<< HEAD
-        ensures err { OnErr result ((count : ℕ)
-            × (told self.new ≡ option_map (λ taken. taken ++ take count bytes.now) (told self.old))) }
-=======
         ensures err { OnErr result ((count : ℕ) × (told self.new
             ≡ option_map (λ taken. taken ++ take count bytes.now) (told self.old))) }
->>>>>>> b00aec0e293f66ecd53c9a134f51d1ed09bdc703
         ensures cause { HasCause SinkErr.Failed SinkErr.Memory
             (faults self.old) (faults self.new) result };
 }

@@ -4,16 +4,11 @@ use crate::{
     HonestSink, HonestWorld, MemSink, MemWorld, RealSink, RealWorld, Sink, SinkErr, World, WorldErr,
 };
 use rf_text::{Bytes, List};
-<<<<<<< HEAD
-use std::os::unix::fs::symlink;
-use std::test::Fail;
-=======
 use std::fmt::Display;
 use std::io::ErrorKind;
 use std::os::unix::fs::symlink;
 use std::test::Fail;
 use std::{fs, io};
->>>>>>> b00aec0e293f66ecd53c9a134f51d1ed09bdc703
 
 /// Whether the list has exactly these two paths, in either order.
 fn are_both(paths: &List<Bytes>, one: &[u8], other: &[u8]) -> bool {
@@ -100,27 +95,6 @@ fn sinks_take_bytes_in_order(rt: HostRuntime) -> Result<(), Fail> {
     Ok(())
 }
 
-<<<<<<< HEAD
-#[test]
-fn the_system_keeps_what_is_written(rt: HostRuntime) -> Result<(), Fail> {
-    let alloc = rt.alloc();
-    let mut world = RealWorld::new(&rt);
-    let long = vec![in alloc; 7u8; 200_000]?;
-    world.write(alloc, b"made", b"p/q/A.java", long.as_slice())?;
-    world.write(alloc, b"made/", b"B.java", b"class B{}")?;
-    world.write(alloc, b"made", b"B.java", b"class")?;
-
-    assert!(rt; are_both(&world.list(alloc, b"made")?, b"p/q/A.java", b"B.java"));
-    let read = world.read(alloc, b"made/p", b"q/A.java")?;
-    assert_eq!(rt; read.as_slice(), long.as_slice());
-    let read = world.read(alloc, b"", b"made/B.java")?;
-    assert_eq!(rt; read.as_slice(), b"class".as_slice());
-
-    symlink(&rt, "..", "made/p/up")?;
-    symlink(&rt, "q/A.java", "made/p/link")?;
-    symlink(&rt, "gone", "made/p/broken")?;
-    assert!(rt; are_both(&world.list(alloc, b"made/p")?, b"q/A.java", b"link"));
-=======
 /// A standard output that takes nothing.
 struct Full;
 
@@ -165,38 +139,24 @@ fn the_system_keeps_what_is_written(rt: HostRuntime) -> Result<(), Fail> {
     symlink(&rt, "gone", "test_kept/p/broken")?;
     assert!(rt; are_both(&world.list(alloc, b"test_kept/p")?, b"q/A.java", b"link"));
     fs::remove_dir_all(&rt, "test_kept")?;
->>>>>>> b00aec0e293f66ecd53c9a134f51d1ed09bdc703
     Ok(())
 }
 
 #[test]
 fn the_system_refuses_what_is_not_there(rt: HostRuntime) -> Result<(), Fail> {
     let alloc = rt.alloc();
-<<<<<<< HEAD
-    let mut world = RealWorld::new(&rt);
-    for root in [b"gone".as_slice(), b"\xff".as_slice()] {
-=======
     let _ = fs::remove_dir_all(&rt, "test_refused");
     let mut world = RealWorld::new(&rt);
     for root in [b"test_refused".as_slice(), b"\xff".as_slice()] {
->>>>>>> b00aec0e293f66ecd53c9a134f51d1ed09bdc703
         assert_eq!(rt; world.list(alloc, root).err(), Some(WorldErr::Failed));
         let read = world.read(alloc, root, b"A.java");
         assert_eq!(rt; read.err(), Some(WorldErr::Failed));
     }
-<<<<<<< HEAD
-    let unnamed = world.write(alloc, b"made", b"\xff", b"class A{}");
-    assert_eq!(rt; unnamed.err(), Some(WorldErr::Failed));
-    world.write(alloc, b"made", b"A", b"class A{}")?;
-    let below_a_file = world.write(alloc, b"made", b"A/B", b"class B{}");
-    assert_eq!(rt; below_a_file.err(), Some(WorldErr::Failed));
-=======
     let unnamed = world.write(alloc, b"test_refused", b"\xff", b"class A{}");
     assert_eq!(rt; unnamed.err(), Some(WorldErr::Failed));
     world.write(alloc, b"test_refused", b"A", b"class A{}")?;
     let below_a_file = world.write(alloc, b"test_refused", b"A/B", b"class B{}");
     assert_eq!(rt; below_a_file.err(), Some(WorldErr::Failed));
     fs::remove_dir_all(&rt, "test_refused")?;
->>>>>>> b00aec0e293f66ecd53c9a134f51d1ed09bdc703
     Ok(())
 }
