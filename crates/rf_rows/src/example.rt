@@ -25,7 +25,7 @@ pub struct Example<'a> {
 /// The words of a plain run.
 pub const APPLY: &[&str] = &["apply", "src", "-", "out", "req"];
 
-pub fn words(alloc: Global, words: &[&str]) -> Result<List<Bytes>, Memory> {
+pub(crate) fn words(alloc: Global, words: &[&str]) -> Result<List<Bytes>, Memory> {
     let mut list = List::new(alloc);
     for word in words {
         list.push(Bytes::from_slice(alloc, word.as_bytes())?)?;
@@ -52,7 +52,7 @@ fn stands(world: &MemWorld, root: &str, path: &str, bytes: &[u8]) -> bool {
 }
 
 /// Runs the example over a world and a sink in memory, and compares status, line and every file.
-pub fn check<R: Abort + AllocGlobal>(rt: &R, example: &Example<'_>) -> Result<(), Fail> {
+pub(crate) fn check<R: Abort + AllocGlobal>(rt: &R, example: &Example<'_>) -> Result<(), Fail> {
     let alloc = rt.alloc();
     let name = example.name;
     let mut world = MemWorld::new(alloc, numbers(alloc, example.failing)?);
