@@ -85,3 +85,20 @@ pub(crate) fn check<R: Abort + AllocGlobal>(rt: &R, example: &Example<'_>) -> Re
     }
     Ok(())
 }
+
+/// Runs the request over one file `A.java`: the status, and whether these bytes then stand under `out`.
+pub(crate) fn status_and_file<R: Abort + AllocGlobal>(
+    rt: &R,
+    class: &[u8],
+    request: &[u8],
+    wanted: &[u8],
+) -> Result<(u8, bool), Fail> {
+    let alloc = rt.alloc();
+    let mut world = MemWorld::new(alloc, List::new(alloc));
+    world.put_file(alloc, b"src", b"A.java", class)?;
+    world.put_file(alloc, b"", b"req", request)?;
+    let mut sink = MemSink::new(alloc, List::new(alloc));
+    let words = words(alloc, APPLY)?;
+    let status = run(alloc, words.as_slice(), &mut world, &mut sink);
+    Ok((status.code(), stands(&world, "out", "A.java", wanted)))
+}

@@ -1,4 +1,4 @@
-use crate::example::{APPLY, Example, check, words};
+use crate::example::{APPLY, Example, check, status_and_file, words};
 use rf_cli::run;
 use rf_world::{HonestSink, HonestWorld};
 use std::alloc::Global;
@@ -55,29 +55,34 @@ fn answers_of_the_first_form(rt: HostRuntime) -> Result<(), Fail> {
     )
 }
 
+const BAD_WORDS: [&[&str]; 9] = [
+    &[],
+    &["apply", "src", "-", "src", "req"],
+    &["apply", "src", "lib", "lib", "req"],
+    &["apply", "src", "-", "-", "req"],
+    &["apply", "src", "-", "out"],
+    &["apply", "src", "-", "out", "req", "more"],
+    &["apply", "src", "", "out", "req"],
+    &["bind", "src", "-", "out", "req"],
+    &["Apply", "src", "-", "out", "req"],
+];
+
+const NO_COMMAND: Example<'static> = Example {
+    name: "bad words",
+    status: 3,
+    line: "bad words\n",
+    written: None,
+    ..RENAME
+};
+
 #[test]
 fn bad_words(rt: HostRuntime) -> Result<(), Fail> {
-    let cases: [&[&str]; 9] = [
-        &[],
-        &["apply", "src", "-", "src", "req"],
-        &["apply", "src", "lib", "lib", "req"],
-        &["apply", "src", "-", "-", "req"],
-        &["apply", "src", "-", "out"],
-        &["apply", "src", "-", "out", "req", "more"],
-        &["apply", "src", "", "out", "req"],
-        &["bind", "src", "-", "out", "req"],
-        &["Apply", "src", "-", "out", "req"],
-    ];
-    for words in cases {
+    for words in BAD_WORDS {
         check(
             &rt,
             &Example {
-                name: "bad words",
                 words,
-                status: 3,
-                line: "bad words\n",
-                written: None,
-                ..RENAME
+                ..NO_COMMAND
             },
         )?;
     }
@@ -215,41 +220,28 @@ fn padded(alloc: Global, text: &[u8], length: usize) -> Result<Vec<u8>, Fail> {
 }
 
 #[test]
-fn limits(rt: HostRuntime) -> Result<(), Fail> {
+fn the_greatest_sizes(rt: HostRuntime) -> Result<(), Fail> {
     let within = padded(rt.alloc(), CLASS, 1_048_576)?;
-    let over = padded(rt.alloc(), CLASS, 1_048_577)?;
     let renamed = padded(rt.alloc(), RENAMED, 1_048_576)?;
-    check(
-        &rt,
-        &Example {
-            name: "a file of the greatest size",
-            files: &[("src", "A.java", within.as_slice()), ("", "req", TO_G)],
-            written: Some(("out", "A.java", renamed.as_slice())),
-            ..RENAME
-        },
-    )?;
-    let not_yet = Example {
-        name: "a file one byte longer",
-        files: &[("src", "A.java", over.as_slice()), ("", "req", TO_G)],
-        status: 12,
-        line: "not yet\n",
-        written: None,
-        ..RENAME
-    };
-    check(&rt, &not_yet)?;
+    assert_eq!(rt;
+        status_and_file(&rt, within.as_slice(), TO_G, renamed.as_slice())?,
+        (0, true)
+    );
+    let over = padded(rt.alloc(), CLASS, 1_048_577)?;
+    assert_eq!(rt;
+        status_and_file(&rt, over.as_slice(), TO_G, b"")?,
+        (12, false)
+    );
     let mut request = Vec::new(rt.alloc());
     request.extend_from_slice(b"rename field A.f to g")?;
-    for _ in 0..65_516 {
+    for _ in 21..65_537 {
         request.push(b'g')?;
     }
-    check(
-        &rt,
-        &Example {
-            name: "a request of 65,537 bytes",
-            files: &[("src", "A.java", CLASS), ("", "req", request.as_slice())],
-            ..not_yet
-        },
-    )
+    assert_eq!(rt;
+        status_and_file(&rt, CLASS, request.as_slice(), b"")?,
+        (12, false)
+    );
+    Ok(())
 }
 
 #[test]
