@@ -1,8 +1,8 @@
 -- The list of separators and operators and the places of its texts.
-use Rattle.std.proofs.Common.{◌≡◌, ℕ, List, Option, Some, None, map, slice_get, refl, ap, ◌∙◌, arith}
+use Rattle.std.proofs.Common.{◌≡◌, ℕ, List, Option, Some, None, map, slice_get, get_or, length, ◌<◌, Bor, refl, ap, ◌∙◌, arith}
 use Rattle.rf_jtree.specs.declared.operators.Op.{Op}
 use Rattle.rf_jtree.specs.Operators.{OPERATORS, operator_of, operator_at}
-use Rattle.rf_jtree.proofs.TableLemmas.{place_in, numbered, at_place, stands_at_place}
+use Rattle.rf_jtree.proofs.TableLemmas.{place_in, numbered, at_place, stands_at_place, stands_borrowed}
 
 table : map (place_in OPERATORS) OPERATORS ≡ numbered 0 OPERATORS
 unfolding OPERATORS
@@ -12,6 +12,10 @@ table = refl
 pub operator_of-word : (n : ℕ) (word : List ℕ) → slice_get OPERATORS n ≡ Some word → operator_of word ≡ Some (record { 0 = n })
 unfolding operator_of
 operator_of-word n word at = ap operator_at (at_place (place_in OPERATORS) OPERATORS 0 n word table at ∙ ap Some (omega arith))
+
+-- also where the list is one of borrowed texts
+pub operator_of_borrowed : (words : List (Bor (List ℕ))) (n : ℕ) (absent : Bor (List ℕ)) → map (λ word. word.now) words ≡ OPERATORS → n < length words → operator_of (get_or words n absent).now ≡ Some (record { 0 = n })
+operator_of_borrowed words n absent same within = operator_of-word n (get_or words n absent).now (stands_borrowed words OPERATORS n absent same within)
 
 number : Option Op → Option ℕ
 number None = None

@@ -1,8 +1,8 @@
 -- A table of texts and the places of its texts.
-use Rattle.std.proofs.Common.{◌≡◌, ℕ, zero, suc, ◌+◌, List, [], ◌∷◌, Option, Some, map, position, slice_get, get_or, sym, ap, ◌∙◌, arith}
+use Rattle.std.proofs.Common.{◌≡◌, ℕ, zero, suc, ◌+◌, List, [], ◌∷◌, Option, Some, map, position, slice_get, get_or, length, ◌<◌, option_map, Bor, sym, ap, ◌∙◌, arith}
 use Rattle.std.specs.Str.{bytes_eq}
 use Rattle.std.proofs.lemmas.List.Quantifiers.{position-Some}
-use Rattle.std.proofs.lemmas.Option.{slice_get-get_or}
+use Rattle.std.proofs.lemmas.Option.{slice_get-get_or, slice_get-map}
 use Rattle.std.proofs.lemmas.Slice.Eq.{bytes_eq-Decides}
 
 -- the place of a text in a table
@@ -21,6 +21,11 @@ at_place place (first ∷ words) from zero word same at = let e : first ≡ word
 at_place place (first ∷ words) from (suc n) word same at =
     let rest : map place words ≡ numbered (from + 1) words = cc in
     at_place place words (from + 1) n word rest at ∙ ap Some (omega arith)
+
+-- the borrowed texts of a table stand at the places of the table
+pub stands_borrowed : (words : List (Bor (List ℕ))) (table : List (List ℕ)) (n : ℕ) (absent : Bor (List ℕ)) → map (λ word. word.now) words ≡ table → n < length words → slice_get table n ≡ Some (get_or words n absent).now
+stands_borrowed words table n absent same within =
+    ap (λ texts. slice_get texts n) (sym same) ∙ slice_get-map (λ word. word.now) words n ∙ ap (option_map (λ word. word.now)) (slice_get-get_or words n absent within)
 
 -- and a text that has a place stands there
 pub stands_at_place : (table : List (List ℕ)) (n : ℕ) (text : List ℕ) → place_in table text ≡ Some n → slice_get table n ≡ Some text

@@ -1,8 +1,8 @@
 -- The list of keywords and the places of its words.
-use Rattle.std.proofs.Common.{◌≡◌, ℕ, List, Option, Some, None, map, slice_get, refl, ap, ◌∙◌, arith}
+use Rattle.std.proofs.Common.{◌≡◌, ℕ, List, Option, Some, None, map, slice_get, get_or, length, ◌<◌, Bor, refl, ap, ◌∙◌, arith}
 use Rattle.rf_jtree.specs.declared.words.Kw.{Kw}
 use Rattle.rf_jtree.specs.Words.{KEYWORDS, keyword_of, at_place}
-use Rattle.rf_jtree.proofs.TableLemmas.{place_in, numbered, at_place as at_place_lem, stands_at_place}
+use Rattle.rf_jtree.proofs.TableLemmas.{place_in, numbered, at_place as at_place_lem, stands_at_place, stands_borrowed}
 
 table : map (place_in KEYWORDS) KEYWORDS ≡ numbered 0 KEYWORDS
 unfolding KEYWORDS
@@ -12,6 +12,10 @@ table = refl
 pub keyword_of-word : (n : ℕ) (word : List ℕ) → slice_get KEYWORDS n ≡ Some word → keyword_of word ≡ Some (record { 0 = n })
 unfolding keyword_of
 keyword_of-word n word at = ap at_place (at_place_lem (place_in KEYWORDS) KEYWORDS 0 n word table at ∙ ap Some (omega arith))
+
+-- also where the list is one of borrowed texts
+pub keyword_of_borrowed : (words : List (Bor (List ℕ))) (n : ℕ) (absent : Bor (List ℕ)) → map (λ word. word.now) words ≡ KEYWORDS → n < length words → keyword_of (get_or words n absent).now ≡ Some (record { 0 = n })
+keyword_of_borrowed words n absent same within = keyword_of-word n (get_or words n absent).now (stands_borrowed words KEYWORDS n absent same within)
 
 number : Option Kw → Option ℕ
 number None = None

@@ -1,5 +1,5 @@
 -- White space and comments (JLS 3.3, 3.6, 3.7).
-use Rattle.std.specs.Prelude.{◌≡◌, ℕ, ◌%◌, Bool, true, false, not, ◌||◌, ◌==◌, List, [], ◌∷◌, ◌++◌, Contains, codes}
+use Rattle.std.specs.Prelude.{◌≡◌, ℕ, ◌%◌, Bool, not, ◌||◌, ◌==◌, List, [], ◌∷◌, ◌++◌, Contains, codes}
 use Rattle.std.specs.List.{AllPass, suffix_len}
 use Rattle.std.specs.Str.{IsUtf8}
 use Rattle.rf_jtree.specs.Escapes.{IsUnicodeEscape}

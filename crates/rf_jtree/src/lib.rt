@@ -6,13 +6,15 @@ mod exprs;
 mod names;
 mod operators;
 mod stmts;
+#[cfg(test)]
+mod tests;
 mod tokens;
 mod words;
 
 pub use decls::{Body, CtorCall, Import, Member, Param, Params, Ret, TypeDecl, Unit};
 pub use exprs::{Args, Braces, Expr, Init};
 pub use names::{Dims, Many, Mod, Name, Strs, TypeBase, TypeUse};
-pub use operators::{Op, operator, operators_are_found};
+pub use operators::{Op, every_operator_is_found, operator, operators_are_found};
 pub use stmts::{Block, Catch, ForFirst, Group, Local, Stmt, Var};
 pub use tokens::{Tok, TokKind, Toks};
-pub use words::{Kw, keyword, keywords_are_found};
+pub use words::{Kw, every_keyword_is_found, keyword, keywords_are_found};

@@ -1,4 +1,4 @@
-ghost use Rattle.std.specs.Prelude.{◌≡◌, ℕ, List, slice_get, Some};
+ghost use Rattle.std.specs.Prelude.{◌≡◌, ℕ, List, slice_get, Some, IsTrue, map};
 ghost use Rattle.rf_jtree.specs.Operators.{OPERATORS, operator_of};
 
 /// The place, from 0, of a separator or an operator in the list of both (JLS 3.11, 3.12).
@@ -29,6 +29,33 @@ pub fn operator(bytes: &[u8]) -> Option<Op>
         Some(place) => Some(Op(place as u8)),
         None => None,
     }
+}
+
+macro_rules! each_found {
+    (; $($word:literal),*) => {
+        each_is_found(&[$($word as &[u8]),*])
+    };
+}
+
+/// Whether each of `words` is the separator or operator of its place.
+#[tactic(auto, using(crate::proofs::OperatorLemmas::operator_of_borrowed))]
+fn each_is_found(words: &[&[u8]]) -> bool
+    ensures { map (λ word. word.now) words.now ≡ OPERATORS → IsTrue result }
+{
+    for (place, word) in words.iter().enumerate() {
+        match operator(word) {
+            Some(Op(found)) if found as usize == place => {}
+            _ => return false,
+        }
+    }
+    true
+}
+
+/// Walks the list: each text is the separator or operator of its place.
+pub fn every_operator_is_found() -> bool
+    ensures { IsTrue result }
+{
+    operators!(each_found)
 }
 
 /// Each text of the list is an operator with its own place, and nothing else is one.

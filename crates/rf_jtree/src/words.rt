@@ -1,4 +1,4 @@
-ghost use Rattle.std.specs.Prelude.{◌≡◌, ◌<◌, ℕ, List, length, slice_get, position, IfSome, Some};
+ghost use Rattle.std.specs.Prelude.{◌≡◌, ◌<◌, ℕ, List, length, slice_get, position, IfSome, Some, IsTrue, map};
 ghost use Rattle.std.specs.Str.{bytes_eq};
 ghost use Rattle.rf_jtree.specs.Words.{keyword_of, KEYWORDS};
 
@@ -41,6 +41,33 @@ pub fn keyword(bytes: &[u8]) -> Option<Kw>
         Some(place) => Some(Kw(place as u8)),
         None => None,
     }
+}
+
+macro_rules! each_found {
+    (; $($word:literal),*) => {
+        each_is_found(&[$($word as &[u8]),*])
+    };
+}
+
+/// Whether each of `words` is the keyword of its place.
+#[tactic(auto, using(crate::proofs::WordLemmas::keyword_of_borrowed))]
+fn each_is_found(words: &[&[u8]]) -> bool
+    ensures { map (λ word. word.now) words.now ≡ KEYWORDS → IsTrue result }
+{
+    for (place, word) in words.iter().enumerate() {
+        match keyword(word) {
+            Some(Kw(found)) if found as usize == place => {}
+            _ => return false,
+        }
+    }
+    true
+}
+
+/// Walks the 50 words: each is the keyword of its place.
+pub fn every_keyword_is_found() -> bool
+    ensures { IsTrue result }
+{
+    keywords!(each_found)
 }
 
 /// Each word of the list is a keyword with its own place, and nothing else is one.

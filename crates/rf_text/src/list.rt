@@ -97,7 +97,8 @@ impl<T: Drop> List<T> {
 
     /// Moves the items of `more` to the end. On an `Err` they are let go.
     pub fn append(&mut self, more: List<T>) -> Result<(), Memory>
-        ensures { OnOk result (self.new ≡ self.old ++ more) }
+        ensures ok { OnOk result (self.new ≡ self.old ++ more) }
+        ensures err { OnErr result (self.new ≡ self.old) }
     {
         let List { mut items } = more;
         self.items.append(&mut items)?;

@@ -1,4 +1,3 @@
-use Rattle.std.proofs.Common.{subst, sym}
 use Rattle.rf_text.proofs.NameLemmas.{position-cases}
 use Rattle.rf_text.proofs.names.place_of.Goals as goal
 

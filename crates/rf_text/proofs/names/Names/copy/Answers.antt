@@ -1,4 +1,4 @@
-use Rattle.std.proofs.Common.{◌≡◌, List, ℕ, Contains, ap, subst, sym, rules}
+use Rattle.std.proofs.Common.{subst, sym}
 use Rattle.std.specs.List.{IsDistinct}
 use Rattle.rf_text.proofs.NameLemmas.{absent_before, same_text}
 use Rattle.rf_text.proofs.names.Names.copy.Goals as goal
