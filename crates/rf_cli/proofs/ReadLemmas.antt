@@ -1,14 +1,14 @@
 -- What a command has read, put together.
-use Rattle.std.proofs.Common.{◌≡◌, ℕ, Bool, true, false, cond, ◌||◌, ◌&&◌, List, [], ◌∷◌, Option, Some, None, filter, find, map, IfSome, IsSome, IsTrue, is_some, not, option_map, refl, sym, ap, subst, ◌∙◌, true≢false}
+use Rattle.std.proofs.Common.{◌≡◌, ℕ, Bool, true, false, cond, ◌||◌, ◌&&◌, List, [], ◌∷◌, Option, Some, None, filter, find, map, IfSome, IsSome, is_some, not, option_map, refl, sym, ap, subst, ◌∙◌, true≢false}
 use Rattle.std.specs.List.{list_any}
 use Rattle.std.specs.Str.{bytes_eq}
 use Rattle.std.proofs.lemmas.Slice.Eq.{bytes_eq-Decides}
 use Rattle.rf_world.specs.World.{File, content, is_at, paths_under}
 use Rattle.rf_engine.specs.declared.first_form.FirstPath.{FirstPath}
-use Rattle.rf_engine.specs.FirstForm.{Form, IsForm, IsAnswer}
+use Rattle.rf_engine.specs.FirstForm.{IsForm, IsAnswer}
 use Rattle.rf_cli.specs.Command.{Apply, no_library}
 use Rattle.rf_cli.specs.JavaPath.{is_java_path, java_paths}
-use Rattle.rf_cli.specs.Reads.{HoldsForm, IsRight}
+use Rattle.rf_cli.specs.Reads.{IsRight}
 
 same_bytes : (bytes : List ℕ) → bytes_eq bytes bytes ≡ true
 same_bytes bytes = (bytes_eq-Decides bytes bytes).1 refl

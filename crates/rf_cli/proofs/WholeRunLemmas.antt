@@ -1,5 +1,5 @@
 -- What a run did with the decision, put together with what was decided.
-use Rattle.std.proofs.Common.{◌≡◌, ◌≢◌, ℕ, Bool, true, false, cond, List, [], ◌∷◌, ◌⊎◌, Option, Some, None, IfSome, IsSome, option_map, length, take, refl, sym, ap, subst, ◌∙◌, inl, inr}
+use Rattle.std.proofs.Common.{◌≡◌, ◌≢◌, ℕ, Bool, true, false, cond, List, [], ◌⊎◌, Option, Some, None, IfSome, IsSome, option_map, length, take, sym, ap, subst, ◌∙◌, inl, inr}
 use Rattle.std.specs.List.{list_any}
 use Rattle.std.specs.Str.{bytes_eq}
 use Rattle.std.proofs.Math.Seq.{take-length}
@@ -11,11 +11,11 @@ use Rattle.rf_engine.specs.FirstForm.{Form, answer_of}
 use Rattle.rf_engine.specs.ClassFile.{names_of}
 use Rattle.rf_cli.specs.declared.status.Status.{Status}
 use Rattle.rf_cli.specs.declared.status.Status.TheVariants as status
-use Rattle.rf_cli.specs.Acting.{Acts, Ends, Fails, Writes}
+use Rattle.rf_cli.specs.Acting.{Acts, Fails}
 use Rattle.rf_cli.specs.Command.{Apply, IsApply}
 use Rattle.rf_cli.specs.Put.{Puts}
 use Rattle.rf_cli.specs.Reads.{HoldsForm, IsRight}
-use Rattle.rf_cli.specs.WholeRun.{AreBadWords, HasAnswer, HasNoForm, IsChanged, IsRefused, IsExact, IsFault, HasRequest, StandsWhole, IsWritten, TouchesOneFile, status_of}
+use Rattle.rf_cli.specs.WholeRun.{AreBadWords, HasAnswer, HasNoForm, IsChanged, IsRefused, IsExact, IsFault, HasRequest, StandsWhole, TouchesOneFile, status_of}
 
 one_of_three : (a b c d e : List ℕ) (same taken : Bool) → cond same (Changed a b) (cond taken (Refused c) (Changed d e)) ≡ NotYet → ⊥
 one_of_three a b c d e true taken none = cc

@@ -1,5 +1,5 @@
 -- Which files are Java files that hold a type (JLS 7.3; 7.4.1 on package-info.java).
-use Rattle.std.specs.Prelude.{◌≡◌, ℕ, Bool, ◌||◌, ◌&&◌, not, List, ◌∷◌, ◌++◌, nat_eq, filter, codes}
+use Rattle.std.specs.Prelude.{ℕ, Bool, ◌||◌, ◌&&◌, not, List, ◌++◌, nat_eq, filter, codes}
 use Rattle.std.specs.List.{ends_with}
 use Rattle.std.specs.Str.{bytes_eq}
 use Rattle.rf_world.specs.World.{File, paths_under}

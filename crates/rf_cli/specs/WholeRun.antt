@@ -1,5 +1,5 @@
 -- What a whole run does, status by status, over the files that the world tells and the bytes that the sink tells.
-use Rattle.std.specs.Prelude.{◌≡◌, ◌≢◌, ℕ, List, [], ◌⊎◌, Option, Some, None, IsSome, take}
+use Rattle.std.specs.Prelude.{◌≡◌, ℕ, List, [], ◌⊎◌, Option, Some, IsSome, take}
 use Rattle.rf_world.specs.Fault.{Rose}
 use Rattle.rf_world.specs.World.{File, content, with_file}
 use Rattle.rf_engine.specs.declared.first_form.FirstPath.{FirstPath}

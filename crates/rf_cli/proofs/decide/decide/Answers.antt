@@ -1,4 +1,4 @@
-use Rattle.std.proofs.Common.{◌≡◌, refl, sym, ap, subst, ◌∙◌, IsTrue, [], ◌∷◌, filter, rules}
+use Rattle.std.proofs.Common.{refl, sym, ap, subst, ◌∙◌, IsTrue, [], ◌∷◌, filter, rules}
 use Rattle.rf_cli.specs.JavaPath.{is_java_path}
 use Rattle.rf_cli.specs.Command.{command_seen}
 use Rattle.rf_cli.proofs.ReadLemmas.{never_absent, right_told}
