@@ -1,0 +1,12 @@
+pub mod Classes
+pub mod Comments
+pub mod Cuts
+pub mod DigitRuns
+pub mod EscapeFronts
+pub mod Fronts
+pub mod Letters
+pub mod Lexed
+pub mod NumberLengths
+pub mod OperatorFronts
+pub mod Pieces
+pub mod QuotedFronts
