@@ -30,9 +30,20 @@ enum Failure {
 }
 
 fn main(rt: HostRuntime) -> ExitCode {
-    match run(&rt) {
-        Ok(()) => ExitCode::SUCCESS,
-        Err(failure) => ExitCode::from(failure as u8),
+    let Err(failure) = run(&rt) else {
+        return ExitCode::SUCCESS;
+    };
+    // A line that can't be put is told by the status, as each failure is.
+    let _put = println!(rt; "{}", line_of(failure));
+    ExitCode::from(failure as u8)
+}
+
+fn line_of(failure: Failure) -> &'static str {
+    match failure {
+        Failure::BadWords => "bad words",
+        Failure::ReadFault => "read fault",
+        Failure::WriteFault => "write fault",
+        Failure::Memory => "out of memory",
     }
 }
 
@@ -53,14 +64,18 @@ fn file_named<R: Env + AllocGlobal>(alloc: Global, rt: &R) -> Result<Bytes, Fail
         return Err(Failure::BadWords);
     };
     let _program = words.next();
-    match (words.next(), words.next(), words.next()) {
-        (Some(command), Some(file), None) if command.as_str() == "tokens" => {
-            match Bytes::from_slice(alloc, file.as_bytes()) {
-                Ok(file) => Ok(file),
-                Err(_) => Err(Failure::Memory),
-            }
-        }
-        _ => Err(Failure::BadWords),
+    let Some(command) = words.next() else {
+        return Err(Failure::BadWords);
+    };
+    let Some(file) = words.next() else {
+        return Err(Failure::BadWords);
+    };
+    if command.as_str() != "tokens" || words.next().is_some() {
+        return Err(Failure::BadWords);
+    }
+    match Bytes::from_slice(alloc, file.as_bytes()) {
+        Ok(file) => Ok(file),
+        Err(_) => Err(Failure::Memory),
     }
 }
 
