@@ -1,0 +1,25 @@
+pub mod Bounded
+pub mod CallNames
+pub mod CastLemmas
+pub mod CompleteBinary
+pub mod CompleteCast
+pub mod CompleteFirst
+pub mod CompleteNames
+pub mod CompleteParts
+pub mod CompletePrimary
+pub mod CompleteRooms
+pub mod CompleteTop
+pub mod CompleteUnary
+mod CursorLemmas
+pub mod Final
+pub mod First
+pub mod LoopLemmas
+pub mod Sound
+pub mod SoundNames
+pub mod SoundParts
+pub mod SoundPrimary
+pub mod Standing
+pub mod StopLemmas
+pub mod Tools
+mod TurnLemmas
+pub mod Within

@@ -1,0 +1,38 @@
+ghost use Rattle.std.specs.Prelude.{◌≡◌, max};
+ghost use Rattle.rf_jexpr.specs.Gives.{IsAttempt};
+
+use crate::ParseErr;
+use rf_text::Memory;
+
+/// What was read of the tokens, and the number of the token behind it.
+#[derive(Debug, Drop)]
+pub(crate) struct Taken<T> {
+    pub item: T,
+    pub end: usize,
+}
+
+/// What was read of the tokens, the number of the token behind it, and how deep it is.
+#[derive(Debug, Drop)]
+pub(crate) struct Found<T> {
+    pub tree: T,
+    pub end: usize,
+    pub depth: usize,
+}
+
+/// A part that may be left out: that it isn't there is no error.
+pub(crate) fn attempt<T>(tried: Result<T, ParseErr>) -> Result<Option<T>, Memory>
+    ensures { IsAttempt tried result }
+{
+    match tried {
+        Ok(found) => Ok(Some(found)),
+        Err(ParseErr::NoTree) => Ok(None),
+        Err(ParseErr::Memory) => Err(Memory),
+    }
+}
+
+/// The greater of two depths.
+pub(crate) fn deeper(first: usize, second: usize) -> usize
+    ensures { result ≡ max first second }
+{
+    if first < second { second } else { first }
+}

@@ -1,0 +1,3 @@
+pub mod ExprFirstLemmas
+pub mod ExprShows
+pub mod StmtShows

@@ -1,0 +1,116 @@
+-- What expressions show as trees: themselves without pointers. A layer is an expression whose parts are trees already.
+use Rattle.std.specs.Prelude.{List, [], ◌∷◌, Option, Some, None}
+use Rattle.std.specs.declared.alloc.Global.{Global}
+use Rattle.std.specs.declared.boxed.Box.{Box}
+use Rattle.rf_jtree.specs.declared.exprs.Args.{Args, fold-Args}
+use Rattle.rf_jtree.specs.declared.exprs.Braces.{Braces, fold-Braces}
+use Rattle.rf_jtree.specs.declared.exprs.Expr.{Expr, fold-Expr}
+use Rattle.rf_jtree.specs.declared.exprs.Expr.TheOpen.{Expr-F, Args-F, Braces-F, Init-F}
+use Rattle.rf_jtree.specs.declared.exprs.Init.{Init, fold-Init}
+use Rattle.rf_jtree.specs.declared.names.Many.{Many}
+use Rattle.rf_jtree.specs.declared.tokens.Tok.{Tok}
+use Rattle.rf_jfit.specs.ExprTrees.{ExprTree, OnTree, ArgsTree, SuperArgsTree, ExprsTree, MoreExprsTree, SizesTree, InitTree, BracesTree, InitsTree, MoreInitsTree}
+use Rattle.rf_jfit.specs.ExprTrees as t
+use Rattle.rf_jfit.specs.NameShown.{name_shown, base_shown, type_shown}
+
+-- lists, and parts that may be left out, of trees
+abbrev pub on_tree : Option (Box ExprTree Global × Tok) → OnTree
+on_tree None = t.NoOn
+on_tree (Some on) = t.On on.0.value on.1
+
+abbrev pub super_args_tree : Option ArgsTree → SuperArgsTree
+super_args_tree None = t.NoArgs
+super_args_tree (Some args) = t.SuperArgs args
+
+abbrev pub more_exprs_tree : List (Tok × ExprTree) → MoreExprsTree
+more_exprs_tree [] = t.NoMoreExprs
+more_exprs_tree (item ∷ rest) = t.MoreExprs item.0 item.1 (more_exprs_tree rest)
+
+abbrev pub exprs_tree : Option (Many ExprTree) → ExprsTree
+exprs_tree None = t.NoExprs
+exprs_tree (Some many) = t.Exprs many.first.value (more_exprs_tree many.rest)
+
+abbrev pub sizes_tree : List (Tok × ExprTree × Tok) → SizesTree
+sizes_tree [] = t.NoSizes
+sizes_tree (size ∷ rest) = t.Sizes size.0 size.1 size.2 (sizes_tree rest)
+
+abbrev pub more_inits_tree : List (Tok × InitTree) → MoreInitsTree
+more_inits_tree [] = t.NoMoreInits
+more_inits_tree (item ∷ rest) = t.MoreInits item.0 item.1 (more_inits_tree rest)
+
+abbrev pub inits_tree : Option (Many InitTree) → InitsTree
+inits_tree None = t.NoInits
+inits_tree (Some many) = t.Inits many.first.value (more_inits_tree many.rest)
+
+-- the layers
+abbrev pub expr_layer : Expr-F ExprTree InitTree ArgsTree BracesTree → ExprTree
+expr_layer (Expr-F.Assign left op value) = t.Assign left.value op value.value
+expr_layer (Expr-F.Cond test mark first colon other) = t.Cond test.value mark first.value colon other.value
+expr_layer (Expr-F.Binary left op right) = t.Binary left.value op right.value
+expr_layer (Expr-F.Instance value word sort) = t.Instance value.value word (type_shown sort)
+expr_layer (Expr-F.Unary op value) = t.Unary op value.value
+expr_layer (Expr-F.Cast left sort right value) = t.Cast left (type_shown sort) right value.value
+expr_layer (Expr-F.Postfix value op) = t.Postfix value.value op
+expr_layer (Expr-F.Lit tok) = t.Lit tok
+expr_layer (Expr-F.This tok) = t.This tok
+expr_layer (Expr-F.Paren left value right) = t.Paren left value.value right
+expr_layer (Expr-F.Name name) = t.Name (name_shown name)
+expr_layer (Expr-F.Call on id args) = t.Call (on_tree on) id args
+expr_layer (Expr-F.Field value dot id) = t.Field value.value dot id
+expr_layer (Expr-F.Super word dot id args) = t.Super word dot id (super_args_tree args)
+expr_layer (Expr-F.New word name args) = t.New word (name_shown name) args
+expr_layer (Expr-F.Index value left index right) = t.Index value.value left index.value right
+expr_layer (Expr-F.NewArray word base sizes dims) = t.NewArray word (base_shown base) (sizes_tree sizes) dims
+expr_layer (Expr-F.NewInit word base dims init) = t.NewInit word (base_shown base) dims init
+
+abbrev pub init_layer : Init-F ExprTree InitTree ArgsTree BracesTree → InitTree
+init_layer (Init-F.Value value) = t.Value value
+init_layer (Init-F.Braced braces) = t.Braced braces
+
+abbrev pub args_layer : Args-F ExprTree InitTree ArgsTree BracesTree → ArgsTree
+args_layer args = t.Args args.left (exprs_tree args.list) args.right
+
+abbrev pub braces_layer : Braces-F ExprTree InitTree ArgsTree BracesTree → BracesTree
+braces_layer braces = t.Braces braces.left (inits_tree braces.items) braces.comma braces.right
+
+-- the trees
+unfoldable pub expr_shown : Expr → ExprTree
+expr_shown = fold-Expr ExprTree InitTree ArgsTree BracesTree expr_layer init_layer args_layer braces_layer
+
+unfoldable pub init_shown : Init → InitTree
+init_shown = fold-Init ExprTree InitTree ArgsTree BracesTree expr_layer init_layer args_layer braces_layer
+
+unfoldable pub args_shown : Args → ArgsTree
+args_shown = fold-Args ExprTree InitTree ArgsTree BracesTree expr_layer init_layer args_layer braces_layer
+
+unfoldable pub braces_shown : Braces → BracesTree
+braces_shown = fold-Braces ExprTree InitTree ArgsTree BracesTree expr_layer init_layer args_layer braces_layer
+
+-- the parts that lead back to expressions
+abbrev pub on_shown : Option (Box Expr Global × Tok) → OnTree
+on_shown None = t.NoOn
+on_shown (Some on) = t.On (expr_shown on.0.value) on.1
+
+abbrev pub super_args_shown : Option Args → SuperArgsTree
+super_args_shown None = t.NoArgs
+super_args_shown (Some args) = t.SuperArgs (args_shown args)
+
+abbrev pub more_exprs_shown : List (Tok × Expr) → MoreExprsTree
+more_exprs_shown [] = t.NoMoreExprs
+more_exprs_shown (item ∷ rest) = t.MoreExprs item.0 (expr_shown item.1) (more_exprs_shown rest)
+
+abbrev pub exprs_shown : Option (Many Expr) → ExprsTree
+exprs_shown None = t.NoExprs
+exprs_shown (Some many) = t.Exprs (expr_shown many.first.value) (more_exprs_shown many.rest)
+
+abbrev pub sizes_shown : List (Tok × Expr × Tok) → SizesTree
+sizes_shown [] = t.NoSizes
+sizes_shown (size ∷ rest) = t.Sizes size.0 (expr_shown size.1) size.2 (sizes_shown rest)
+
+abbrev pub more_inits_shown : List (Tok × Init) → MoreInitsTree
+more_inits_shown [] = t.NoMoreInits
+more_inits_shown (item ∷ rest) = t.MoreInits item.0 (init_shown item.1) (more_inits_shown rest)
+
+abbrev pub inits_shown : Option (Many Init) → InitsTree
+inits_shown None = t.NoInits
+inits_shown (Some many) = t.Inits (init_shown many.first.value) (more_inits_shown many.rest)

@@ -1,0 +1,20 @@
+//! When a tree of Java fits: each node is one of the grammar's forms, and the further conditions of the language hold.
+#![tactic(auto)]
+
+mod expr_forms;
+mod kinds;
+pub mod levels;
+pub mod operators;
+mod stmt_forms;
+pub mod words;
+
+pub use expr_forms::{
+    begins_operand, binds_at, expr_first, expr_level, is_left_side, is_no_name, is_no_new_array,
+};
+pub use kinds::{
+    has_key, has_op, is_ident, is_key, is_key_of, is_literal, is_op, is_op_of, is_str,
+};
+pub use stmt_forms::{
+    are_statement_exprs, ends_open, has_catch_or_last, is_nearest_if, is_no_local,
+    is_statement_expr,
+};
