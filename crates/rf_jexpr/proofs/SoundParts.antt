@@ -76,7 +76,7 @@ pub more_exprs_yield-tree : (rest : List (Tok × ExprTree)) → flat_map (λ (pa
 more_exprs_yield-tree [] = refl
 more_exprs_yield-tree (part ∷ rest) = ap (λ others. part.0 ∷ (expr_yield part.1 ++ others)) (more_exprs_yield-tree rest)
 
-exprs-good : (room : ℕ) (found : Option (ManyTree ExprTree)) → IfSome found (ManyFit (Good ASSIGNMENT_LEVEL room) COMMA) → GoodExprs room (exprs_of found)
+pub exprs-good : (room : ℕ) (found : Option (ManyTree ExprTree)) → IfSome found (ManyFit (Good ASSIGNMENT_LEVEL room) COMMA) → GoodExprs room (exprs_of found)
 unfolding exprs_of
 exprs-good room None fit = record { fits = tt; shallow = omega arith }
 exprs-good room (Some many) fit = record {

@@ -1,0 +1,5 @@
+pub mod DeclTests
+pub mod Files
+pub mod HeadReads
+pub mod MemberReads
+pub mod UnitReads

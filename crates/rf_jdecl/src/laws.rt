@@ -1,0 +1,8 @@
+ghost use Rattle.std.specs.Prelude.{◌≡◌};
+ghost use Rattle.rf_jfit.specs.DeclFits.{UnitFits};
+ghost use Rattle.rf_jfit.specs.DeclTrees.{UnitTree, unit_yield};
+
+/// No two files that fit have the same tokens, however deep they are.
+pub fn files_have_one_tree()
+    ensures { (one other : UnitTree) → UnitFits one → UnitFits other → unit_yield one ≡ unit_yield other → one ≡ other }
+{}

@@ -1,0 +1,52 @@
+-- The further conditions on what was read, as tests.
+use Rattle.std.specs.Prelude.{List, [], ◌∷◌, Bool, true, false, not, ◌&&◌, ◌||◌}
+use Rattle.std.specs.List.{list_all}
+use Rattle.rf_jfit.specs.declared.operators.TheConstants.{SUFFIXES}
+use Rattle.rf_jfit.specs.declared.words.TheConstants.{FINAL}
+use Rattle.rf_jfit.specs.ExprTrees.{ExprTree, Assign, Unary, Postfix, Call, Super, SuperArgs, New, ExprsTree, NoExprs, Exprs, MoreExprsTree, NoMoreExprs, MoreExprs}
+use Rattle.rf_jfit.specs.Kinds.{is_op_of}
+use Rattle.rf_jfit.specs.NameFits.{is_same_mod, is_access}
+use Rattle.rf_jfit.specs.NameTrees.{ModTree, Word}
+use Rattle.rf_jexpr.specs.Reads.{is_key}
+
+-- ---- modifiers (JLS 8.1.1, 8.3.1, 8.4.3, 9.7)
+
+-- no modifier stands twice
+unfoldable pub none_twice : List ModTree → Bool
+none_twice [] = true
+none_twice (one ∷ mods) = list_all (λ other. not (is_same_mod one other)) mods && none_twice mods
+
+-- at most one of `public`, `protected` and `private` stands
+unfoldable pub one_access : List ModTree → Bool
+one_access [] = true
+one_access (one ∷ mods) = (not (is_access one) || list_all (λ other. not (is_access other)) mods) && one_access mods
+
+unfoldable pub mods_fit : List ModTree → Bool
+mods_fit mods = none_twice mods && one_access mods
+
+-- `final` and annotations alone, as a local variable and a parameter have them (JLS 8.4.1, 14.4)
+unfoldable pub is_variable_mod : ModTree → Bool
+is_variable_mod (Word tok) = is_key FINAL tok
+is_variable_mod annotation = true
+
+unfoldable pub variable_mods_fit : List ModTree → Bool
+variable_mods_fit mods = mods_fit mods && list_all is_variable_mod mods
+
+-- ---- expressions that stand as statements (JLS 14.8, 14.14.1)
+
+unfoldable pub is_statement_expr : ExprTree → Bool
+is_statement_expr (Assign left op value) = true
+is_statement_expr (Unary op value) = is_op_of SUFFIXES op
+is_statement_expr (Postfix value op) = true
+is_statement_expr (Call on id args) = true
+is_statement_expr (Super word dot id (SuperArgs args)) = true
+is_statement_expr (New word name args) = true
+is_statement_expr expr = false
+
+unfoldable pub are_more_statement_exprs : MoreExprsTree → Bool
+are_more_statement_exprs NoMoreExprs = true
+are_more_statement_exprs (MoreExprs comma expr rest) = is_statement_expr expr && are_more_statement_exprs rest
+
+unfoldable pub are_statement_exprs : ExprsTree → Bool
+are_statement_exprs NoExprs = true
+are_statement_exprs (Exprs first rest) = is_statement_expr first && are_more_statement_exprs rest
