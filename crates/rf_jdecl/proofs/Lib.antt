@@ -9,3 +9,4 @@ pub mod NoCalls
 pub mod SoundHeads
 pub mod SoundMembers
 pub mod SoundUnits
+mod FrontLemmas

@@ -14,7 +14,7 @@ use std::alloc::Global;
 
 /// What a token may be asked to be.
 #[derive(Clone, Copy, Debug)]
-pub(crate) enum Want {
+pub enum Want {
     /// This separator or operator.
     Op(Op),
     /// This keyword.
@@ -70,7 +70,7 @@ pub(crate) fn tok_at(t: &[Tok], at: usize) -> Option<&Tok>
 
 /// Whether the token at this place is there and what is wanted.
 #[tactic(auto, using(crate::proofs::CursorLemmas::places))]
-pub(crate) fn is_at(t: &[Tok], at: usize, want: Want) -> bool
+pub fn is_at(t: &[Tok], at: usize, want: Want) -> bool
     ensures { result ≡ begins (passes want) (drop at t.now) }
 {
     match tok_at(t, at) {

@@ -7,5 +7,6 @@ mod laws;
 mod names;
 mod parse_err;
 
+pub use cursor::{Want, is_at};
 pub use laws::{expressions_begin_with, expressions_have_one_tree};
 pub use parse_err::ParseErr;

@@ -17,3 +17,4 @@ pub mod SoundVars
 pub mod Steps
 pub mod StmtFirst
 pub mod TestLemmas
+mod FrontLemmas
