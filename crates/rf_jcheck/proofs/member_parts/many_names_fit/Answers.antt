@@ -1,0 +1,8 @@
+use Rattle.std.proofs.Common.{refl}
+use Rattle.rf_jcheck.proofs.member_parts.many_names_fit.Goals as goal
+
+pub returns-then-name_fits : goal.returns-then-name_fits
+returns-then-name_fits c =
+    let first = rw c.deref.ensures at c.if-name_fits.ensures in
+    let rest = rw c.as_slice.ensures at c.more_names_fit.ensures in
+    (λ ok. (first.0 refl, rest.0 ok), λ fits. rest.1 fits.1)

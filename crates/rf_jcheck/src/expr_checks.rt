@@ -1,0 +1,232 @@
+#![tactic(auto, using(rf_jfit::proofs::ExprShows::expr_shows))]
+
+ghost use Rattle.std.specs.Prelude.{◌↔◌, IsTrue, IfSome, Some};
+ghost use Rattle.rf_jfit.specs.Kinds.{IsOp};
+ghost use Rattle.rf_jfit.specs.ExprFits.{ExprFits, OnFits, ArgsFit, SuperArgsFit, ExprsFit, MoreExprsFit, SizesFit, InitFits, BracesFit, InitsFit, MoreInitsFit, HasSize, HasBrackets};
+ghost use Rattle.rf_jfit.specs.ExprShown.{expr_shown, on_shown, args_shown, super_args_shown, exprs_shown, more_exprs_shown, sizes_shown, init_shown, braces_shown, inits_shown, more_inits_shown};
+
+use crate::form_checks::{
+    is_assign, is_binary, is_cast, is_cond, is_field, is_index, is_instance, is_on, is_postfix,
+    is_super, is_unary,
+};
+use crate::name_checks::{
+    are_braces, are_brackets, are_parens, base_fits, dims_fit, name_fits, type_fits,
+};
+use rf_jfit::operators::COMMA;
+use rf_jfit::words::{NEW, THIS};
+use rf_jfit::{is_ident, is_key, is_literal, is_op};
+use rf_jtree::{Args, Braces, Dims, Expr, Init, Many, Tok};
+use rf_text::List;
+
+/// Whether an expression fits. It goes as deep as the expression.
+#[cycle(expr)]
+pub fn expr_fits(expr: &Expr) -> bool
+    ensures { IsTrue result ↔ ExprFits (expr_shown expr.now) }
+{
+    match expr {
+        Expr::Assign(left, op, value) => is_assign(left, op) && expr_fits(left) && expr_fits(value),
+        Expr::Cond(test, mark, then, colon, other) => {
+            is_cond(test, mark, colon, other)
+                && expr_fits(test)
+                && expr_fits(then)
+                && expr_fits(other)
+        }
+        Expr::Binary(left, op, right) => is_binary(left, op, right)
+            && expr_fits(left)
+            && expr_fits(right),
+        Expr::Instance(value, word, sort) => is_instance(value, word)
+            && expr_fits(value)
+            && type_fits(sort),
+        Expr::Unary(op, value) => is_unary(op, value) && expr_fits(value),
+        Expr::Cast(left, sort, right, value) => {
+            is_cast(left, sort, right, value) && type_fits(sort) && expr_fits(value)
+        }
+        Expr::Postfix(value, op) => is_postfix(value, op) && expr_fits(value),
+        Expr::Lit(tok) => is_literal(tok),
+        Expr::This(tok) => is_key(tok, THIS),
+        Expr::Paren(left, value, right) => are_parens(left, right) && expr_fits(value),
+        Expr::Name(name) => name_fits(name),
+        Expr::Call { on, id, args } => on_fits(on) && is_ident(id) && args_fit(args),
+        Expr::Field(value, dot, id) => is_field(value, dot, id) && expr_fits(value),
+        Expr::Super {
+            word,
+            dot,
+            id,
+            args,
+        } => is_super(word, dot, id) && super_args_fit(args),
+        Expr::New(word, name, args) => is_key(word, NEW) && name_fits(name) && args_fit(args),
+        Expr::Index(value, left, index, right) => {
+            is_index(value, left, right) && expr_fits(value) && expr_fits(index)
+        }
+        Expr::NewArray {
+            word,
+            base,
+            sizes,
+            dims,
+        } => {
+            is_key(word, NEW)
+                && base_fits(base)
+                && has_size(sizes.as_slice())
+                && sizes_fit(sizes.as_slice())
+                && dims_fit(dims)
+        }
+        Expr::NewInit {
+            word,
+            base,
+            dims,
+            init,
+        } => {
+            is_key(word, NEW)
+                && base_fits(base)
+                && has_brackets(dims)
+                && dims_fit(dims)
+                && braces_fit(init)
+        }
+    }
+}
+
+#[cycle(expr)]
+fn on_fits(on: &Option<(Box<Expr>, Tok)>) -> bool
+    ensures { IsTrue result ↔ OnFits (on_shown on.now) }
+{
+    match on {
+        None => true,
+        Some((value, dot)) => is_on(value, dot) && expr_fits(value),
+    }
+}
+
+fn has_size(sizes: &[(Tok, Expr, Tok)]) -> bool
+    ensures { IsTrue result ↔ HasSize (sizes_shown sizes.now) }
+{
+    match sizes {
+        [] => false,
+        [_size, ..] => true,
+    }
+}
+
+fn has_brackets(dims: &Dims) -> bool
+    ensures { IsTrue result ↔ HasBrackets dims.now }
+{
+    !dims.list.is_empty()
+}
+
+/// Whether arguments in parentheses fit.
+#[cycle(expr)]
+#[tactic(auto, using(rf_jfit::proofs::ExprShows::args_shown_out))]
+pub fn args_fit(args: &Args) -> bool
+    ensures { IsTrue result ↔ ArgsFit (args_shown args.now) }
+{
+    are_parens(&args.left, &args.right) && exprs_fit(&args.list)
+}
+
+#[cycle(expr)]
+fn super_args_fit(args: &Option<Args>) -> bool
+    ensures { IsTrue result ↔ SuperArgsFit (super_args_shown args.now) }
+{
+    match args {
+        None => true,
+        Some(args) => args_fit(args),
+    }
+}
+
+/// Whether expressions with commas between them fit.
+#[cycle(expr)]
+pub fn exprs_fit(exprs: &Option<Many<Expr>>) -> bool
+    ensures { IsTrue result ↔ ExprsFit (exprs_shown exprs.now) }
+{
+    match exprs {
+        None => true,
+        Some(many) => many_exprs_fit(many),
+    }
+}
+
+#[cycle(expr)]
+fn many_exprs_fit(exprs: &Many<Expr>) -> bool
+    ensures { IsTrue result ↔ ExprsFit (exprs_shown (Some exprs.now)) }
+{
+    expr_fits(&exprs.first) && more_exprs_fit(&exprs.rest)
+}
+
+#[cycle(expr)]
+fn more_exprs_fit(rest: &List<(Tok, Expr)>) -> bool
+    ensures { IsTrue result ↔ MoreExprsFit (more_exprs_shown rest.now) }
+{
+    for item in rest.as_slice() {
+        if !(is_op(&item.0, COMMA) && expr_fits(&item.1)) {
+            return false;
+        }
+    }
+    true
+}
+
+#[cycle(expr)]
+fn sizes_fit(sizes: &[(Tok, Expr, Tok)]) -> bool
+    ensures { IsTrue result ↔ SizesFit (sizes_shown sizes.now) }
+{
+    for size in sizes {
+        if !(are_brackets(&size.0, &size.2) && expr_fits(&size.1)) {
+            return false;
+        }
+    }
+    true
+}
+
+/// Whether what a variable or an array item begins with fits.
+#[cycle(expr)]
+pub fn init_fits(init: &Init) -> bool
+    ensures { IsTrue result ↔ InitFits (init_shown init.now) }
+{
+    match init {
+        Init::Value(value) => expr_fits(value),
+        Init::Braced(braces) => braces_fit(braces),
+    }
+}
+
+/// Whether items in braces fit.
+#[cycle(expr)]
+#[tactic(auto, using(rf_jfit::proofs::ExprShows::braces_shown_out))]
+pub fn braces_fit(braces: &Braces) -> bool
+    ensures { IsTrue result ↔ BracesFit (braces_shown braces.now) }
+{
+    are_braces(&braces.left, &braces.right)
+        && is_comma_or_none(&braces.comma)
+        && inits_fit(&braces.items)
+}
+
+#[cycle(expr)]
+fn inits_fit(inits: &Option<Many<Init>>) -> bool
+    ensures { IsTrue result ↔ InitsFit (inits_shown inits.now) }
+{
+    match inits {
+        None => true,
+        Some(many) => many_inits_fit(many),
+    }
+}
+
+#[cycle(expr)]
+fn many_inits_fit(inits: &Many<Init>) -> bool
+    ensures { IsTrue result ↔ InitsFit (inits_shown (Some inits.now)) }
+{
+    init_fits(&inits.first) && more_inits_fit(&inits.rest)
+}
+
+#[cycle(expr)]
+fn more_inits_fit(rest: &List<(Tok, Init)>) -> bool
+    ensures { IsTrue result ↔ MoreInitsFit (more_inits_shown rest.now) }
+{
+    for item in rest.as_slice() {
+        if !(is_op(&item.0, COMMA) && init_fits(&item.1)) {
+            return false;
+        }
+    }
+    true
+}
+
+fn is_comma_or_none(comma: &Option<Tok>) -> bool
+    ensures { IsTrue result ↔ IfSome comma.now (IsOp COMMA) }
+{
+    match comma {
+        None => true,
+        Some(comma) => is_op(comma, COMMA),
+    }
+}

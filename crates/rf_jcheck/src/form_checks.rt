@@ -1,0 +1,107 @@
+ghost use Rattle.std.specs.Prelude.{◌↔◌, IsTrue};
+ghost use Rattle.rf_jfit.specs.ExprFits.{BeginsOperand, CastTakes, IsAssign, IsCond, IsBinary, IsInstance, IsUnary, IsCast, IsPostfix, IsOn, IsField, IsSuper, IsIndex};
+ghost use Rattle.rf_jfit.specs.ExprTrees.{expr_yield};
+ghost use Rattle.rf_jfit.specs.ExprShown.{expr_shown};
+ghost use Rattle.rf_jfit.specs.NameShown.{type_shown};
+
+use crate::name_checks::{are_brackets, are_parens};
+use rf_jfit::levels::{
+    COMPARISON_LEVEL, CONDITIONAL_LEVEL, OR_OR_LEVEL, POSTFIX_LEVEL, PRIMARY_LEVEL, UNARY_LEVEL,
+    binary_level,
+};
+use rf_jfit::operators::{ASSIGNMENTS, COLON, DOT, PREFIXES, QUESTION, SUFFIXES};
+use rf_jfit::words::{INSTANCEOF, SUPER};
+use rf_jfit::{
+    begins_operand, binds_at, expr_first, expr_level, is_ident, is_key, is_left_side, is_no_name,
+    is_no_new_array, is_op, is_op_of,
+};
+use rf_jtree::{Expr, Tok, TypeBase, TypeUse};
+
+pub(crate) fn is_assign(left: &Expr, op: &Tok) -> bool
+    ensures { IsTrue result ↔ IsAssign (expr_shown left.now) op.now }
+{
+    is_left_side(left) && is_op_of(op, &ASSIGNMENTS)
+}
+
+pub(crate) fn is_cond(test: &Expr, mark: &Tok, colon: &Tok, other: &Expr) -> bool
+    ensures { IsTrue result ↔ IsCond (expr_shown test.now) mark.now colon.now (expr_shown other.now) }
+{
+    binds_at(OR_OR_LEVEL, test)
+        && is_op(mark, QUESTION)
+        && is_op(colon, COLON)
+        && binds_at(CONDITIONAL_LEVEL, other)
+}
+
+pub(crate) fn is_binary(left: &Expr, op: &Tok, right: &Expr) -> bool
+    ensures { IsTrue result ↔ IsBinary (expr_shown left.now) op.now (expr_shown right.now) }
+{
+    let level = binary_level(op);
+    OR_OR_LEVEL <= level && binds_at(level, left) && level < expr_level(right)
+}
+
+pub(crate) fn is_instance(value: &Expr, word: &Tok) -> bool
+    ensures { IsTrue result ↔ IsInstance (expr_shown value.now) word.now }
+{
+    binds_at(COMPARISON_LEVEL, value) && is_key(word, INSTANCEOF)
+}
+
+pub(crate) fn is_unary(op: &Tok, value: &Expr) -> bool
+    ensures { IsTrue result ↔ IsUnary op.now (expr_shown value.now) }
+{
+    is_op_of(op, &PREFIXES) && binds_at(UNARY_LEVEL, value)
+}
+
+#[tactic(auto, using(rf_jfit::proofs::ExprFirstLemmas::BeginsOperand_yield))]
+fn begins_with_operand(expr: &Expr) -> bool
+    ensures { IsTrue result ↔ BeginsOperand (expr_yield (expr_shown expr.now)) }
+{
+    begins_operand(expr_first(expr))
+}
+
+fn cast_takes(sort: &TypeUse, operand: &Expr) -> bool
+    ensures { IsTrue result ↔ CastTakes (type_shown sort.now).base (type_shown sort.now).dims.list (expr_yield (expr_shown operand.now)) }
+{
+    match &sort.base {
+        TypeBase::Prim(_) => match sort.dims.list.as_slice() {
+            [] => true,
+            [_, ..] => begins_with_operand(operand),
+        },
+        TypeBase::Named(_) => begins_with_operand(operand),
+    }
+}
+
+pub(crate) fn is_cast(left: &Tok, sort: &TypeUse, right: &Tok, value: &Expr) -> bool
+    ensures { IsTrue result ↔ IsCast left.now (type_shown sort.now) right.now (expr_shown value.now) }
+{
+    are_parens(left, right) && binds_at(UNARY_LEVEL, value) && cast_takes(sort, value)
+}
+
+pub(crate) fn is_postfix(value: &Expr, op: &Tok) -> bool
+    ensures { IsTrue result ↔ IsPostfix (expr_shown value.now) op.now }
+{
+    binds_at(POSTFIX_LEVEL, value) && is_op_of(op, &SUFFIXES)
+}
+
+pub(crate) fn is_on(value: &Expr, dot: &Tok) -> bool
+    ensures { IsTrue result ↔ IsOn (expr_shown value.now) dot.now }
+{
+    binds_at(PRIMARY_LEVEL, value) && is_op(dot, DOT)
+}
+
+pub(crate) fn is_field(value: &Expr, dot: &Tok, id: &Tok) -> bool
+    ensures { IsTrue result ↔ IsField (expr_shown value.now) dot.now id.now }
+{
+    binds_at(PRIMARY_LEVEL, value) && is_no_name(value) && is_op(dot, DOT) && is_ident(id)
+}
+
+pub(crate) fn is_super(word: &Tok, dot: &Tok, id: &Tok) -> bool
+    ensures { IsTrue result ↔ IsSuper word.now dot.now id.now }
+{
+    is_key(word, SUPER) && is_op(dot, DOT) && is_ident(id)
+}
+
+pub(crate) fn is_index(value: &Expr, left: &Tok, right: &Tok) -> bool
+    ensures { IsTrue result ↔ IsIndex (expr_shown value.now) left.now right.now }
+{
+    binds_at(PRIMARY_LEVEL, value) && is_no_new_array(value) && are_brackets(left, right)
+}

@@ -1,0 +1,170 @@
+ghost use Rattle.std.specs.Prelude.{◌↔◌, ◌⊎◌, IsTrue, IfSome, option_map};
+ghost use Rattle.rf_jfit.specs.ExprShown.{expr_shown, exprs_shown};
+ghost use Rattle.rf_jfit.specs.Kinds.{IsKey, IsIdent};
+ghost use Rattle.rf_jfit.specs.NameShown.{mods_shown};
+ghost use Rattle.rf_jfit.specs.StmtFits.{IsHead, IsLabel, IsValue, IsIf, IsWhile, IsDo, IsFor, IsEach, IsSwitch, IsGroupWord, IsJump, IsExit, IsCatch, IsTry};
+ghost use Rattle.rf_jfit.specs.StmtShown.{stmt_shown, other_shown, catches_shown, last_shown};
+
+use crate::name_checks::{are_braces, are_parens};
+use crate::variable_checks::variable_mods_fit;
+use rf_jfit::operators::{COLON, SEMICOLON};
+use rf_jfit::words::{
+    BREAK, CASE, CATCH, CONTINUE, DEFAULT, DO, FINAL, FOR, IF, SWITCH, TRY, WHILE,
+};
+use rf_jfit::{
+    are_statement_exprs, has_catch_or_last, is_ident, is_key, is_nearest_if, is_no_local, is_op,
+    is_statement_expr,
+};
+use rf_jtree::{Block, Catch, Expr, Kw, Many, Mod, Stmt, Tok};
+use rf_text::List;
+
+pub(crate) fn is_head(key: Kw, word: &Tok, left: &Tok, right: &Tok) -> bool
+    ensures { IsTrue result ↔ IsHead key word.now left.now right.now }
+{
+    is_key(word, key) && are_parens(left, right)
+}
+
+pub(crate) fn is_label(id: &Tok, colon: &Tok, body: &Stmt) -> bool
+    ensures { IsTrue result ↔ IsLabel id.now colon.now (stmt_shown body.now) }
+{
+    is_ident(id) && is_op(colon, COLON) && is_no_local(body)
+}
+
+pub(crate) fn is_value(value: &Expr, semi: &Tok) -> bool
+    ensures { IsTrue result ↔ IsValue (expr_shown value.now) semi.now }
+{
+    is_statement_expr(value) && is_op(semi, SEMICOLON)
+}
+
+pub(crate) fn is_if(
+    word: &Tok,
+    left: &Tok,
+    right: &Tok,
+    then: &Stmt,
+    other: &Option<(Tok, Box<Stmt>)>,
+) -> bool
+    ensures { IsTrue result ↔ IsIf word.now left.now right.now (stmt_shown then.now) (other_shown other.now) }
+{
+    is_head(IF, word, left, right) && is_nearest_if(then, other) && is_no_local(then)
+}
+
+pub(crate) fn is_while(word: &Tok, left: &Tok, right: &Tok, body: &Stmt) -> bool
+    ensures { IsTrue result ↔ IsWhile word.now left.now right.now (stmt_shown body.now) }
+{
+    is_head(WHILE, word, left, right) && is_no_local(body)
+}
+
+pub(crate) fn is_do(
+    word: &Tok,
+    body: &Stmt,
+    until: &Tok,
+    left: &Tok,
+    right: &Tok,
+    semi: &Tok,
+) -> bool
+    ensures { IsTrue result ↔ IsDo word.now (stmt_shown body.now) until.now left.now right.now semi.now }
+{
+    is_key(word, DO)
+        && is_no_local(body)
+        && is_head(WHILE, until, left, right)
+        && is_op(semi, SEMICOLON)
+}
+
+pub(crate) fn is_for(
+    word: &Tok,
+    left: &Tok,
+    semi1: &Tok,
+    semi2: &Tok,
+    last: &Option<Many<Expr>>,
+    right: &Tok,
+    body: &Stmt,
+) -> bool
+    ensures { IsTrue result ↔ IsFor word.now left.now semi1.now semi2.now (exprs_shown last.now) right.now (stmt_shown body.now) }
+{
+    is_head(FOR, word, left, right)
+        && is_op(semi1, SEMICOLON)
+        && is_op(semi2, SEMICOLON)
+        && are_statement_exprs(last)
+        && is_no_local(body)
+}
+
+pub(crate) fn is_each(
+    word: &Tok,
+    left: &Tok,
+    mods: &List<Mod>,
+    id: &Tok,
+    colon: &Tok,
+    right: &Tok,
+    body: &Stmt,
+) -> bool
+    ensures { IsTrue result ↔ IsEach word.now left.now (mods_shown mods.now) id.now colon.now right.now (stmt_shown body.now) }
+{
+    is_head(FOR, word, left, right)
+        && variable_mods_fit(mods)
+        && is_ident(id)
+        && is_op(colon, COLON)
+        && is_no_local(body)
+}
+
+pub(crate) fn is_switch(word: &Tok, left: &Tok, right: &Tok, brace: &Tok, end: &Tok) -> bool
+    ensures { IsTrue result ↔ IsSwitch word.now left.now right.now brace.now end.now }
+{
+    is_head(SWITCH, word, left, right) && are_braces(brace, end)
+}
+
+pub(crate) fn is_group_word(word: &Tok, value: &Option<Expr>) -> bool
+    ensures { IsTrue result ↔ IsGroupWord word.now (option_map expr_shown value.now) }
+{
+    match value {
+        None => is_key(word, DEFAULT),
+        Some(_) => is_key(word, CASE),
+    }
+}
+
+fn is_jump_word(word: &Tok) -> bool
+    ensures { IsTrue result ↔ ((IsKey BREAK word.now) ⊎ (IsKey CONTINUE word.now)) }
+{
+    is_key(word, BREAK) || is_key(word, CONTINUE)
+}
+
+fn is_ident_or_none(tok: &Option<Tok>) -> bool
+    ensures { IsTrue result ↔ IfSome tok.now IsIdent }
+{
+    match tok {
+        None => true,
+        Some(tok) => is_ident(tok),
+    }
+}
+
+pub(crate) fn is_jump(word: &Tok, label: &Option<Tok>, semi: &Tok) -> bool
+    ensures { IsTrue result ↔ IsJump word.now label.now semi.now }
+{
+    is_jump_word(word) && is_ident_or_none(label) && is_op(semi, SEMICOLON)
+}
+
+pub(crate) fn is_exit(key: Kw, word: &Tok, semi: &Tok) -> bool
+    ensures { IsTrue result ↔ IsExit key word.now semi.now }
+{
+    is_key(word, key) && is_op(semi, SEMICOLON)
+}
+
+pub(crate) fn is_key_or_none(key: Kw, tok: &Option<Tok>) -> bool
+    ensures { IsTrue result ↔ IfSome tok.now (IsKey key) }
+{
+    match tok {
+        None => true,
+        Some(tok) => is_key(tok, key),
+    }
+}
+
+pub(crate) fn is_catch(word: &Tok, left: &Tok, fixed: &Option<Tok>, id: &Tok, right: &Tok) -> bool
+    ensures { IsTrue result ↔ IsCatch word.now left.now fixed.now id.now right.now }
+{
+    is_head(CATCH, word, left, right) && is_key_or_none(FINAL, fixed) && is_ident(id)
+}
+
+pub(crate) fn is_try(word: &Tok, catches: &[Catch], last: &Option<(Tok, Block)>) -> bool
+    ensures { IsTrue result ↔ IsTry word.now (catches_shown catches.now) (last_shown last.now) }
+{
+    is_key(word, TRY) && has_catch_or_last(catches, last)
+}
