@@ -1,0 +1,290 @@
+//! Trees made by hand, for the tests: `t.binary(t.name("a"), "+", t.name("b"))`.
+
+use rf_jtree::{
+    Args, Block, Braces, Dims, Expr, ForFirst, Local, Many, Mod, Name, Stmt, Tok, TokKind,
+    TypeBase, TypeUse, Var, keyword, operator,
+};
+use rf_text::{Bytes, List};
+use std::process::Abort;
+
+/// Makes trees of words and of the trees of their parts. Want of memory ends the test.
+#[derive(Clone, Copy)]
+pub(crate) struct Trees<'a, R> {
+    pub rt: &'a R,
+}
+
+fn literal_kind(text: &[u8]) -> TokKind {
+    match text {
+        b"null" => TokKind::Null,
+        [b'"', ..] => TokKind::Str,
+        [b'0'..=b'9', ..] => TokKind::Int,
+        _ => TokKind::Ident,
+    }
+}
+
+fn kind(text: &[u8]) -> TokKind {
+    if let Some(op) = operator(text) {
+        return TokKind::Op(op);
+    }
+    match keyword(text) {
+        Some(word) => TokKind::Key(word),
+        None => literal_kind(text),
+    }
+}
+
+impl<'a, R: Abort + AllocGlobal> Trees<'a, R> {
+    /// A token of this text's kind.
+    pub fn tok(&self, text: &str) -> Tok {
+        Tok {
+            kind: kind(text.as_bytes()),
+            lead: Bytes::new(self.rt.alloc()),
+            text: Bytes::from_slice(self.rt.alloc(), text.as_bytes()).expect(self.rt, "memory"),
+        }
+    }
+
+    pub fn boxed<T: Drop>(&self, tree: T) -> Box<T> {
+        Box::new(self.rt.alloc(), tree).expect(self.rt, "memory")
+    }
+
+    pub fn none<T>(&self) -> List<T> {
+        List::new(self.rt.alloc())
+    }
+
+    pub fn one<T: Drop>(&self, item: T) -> List<T> {
+        let mut list = List::new(self.rt.alloc());
+        list.push(item).expect(self.rt, "memory");
+        list
+    }
+
+    pub fn two<T: Drop>(&self, first: T, second: T) -> List<T> {
+        let mut list = self.one(first);
+        list.push(second).expect(self.rt, "memory");
+        list
+    }
+
+    pub fn only<T: Drop>(&self, item: T) -> Many<T> {
+        Many {
+            first: self.boxed(item),
+            rest: self.none(),
+        }
+    }
+
+    /// A name of one identifier.
+    pub fn id(&self, text: &str) -> Name {
+        Name {
+            ids: self.only(self.tok(text)),
+        }
+    }
+
+    pub fn no_dims(&self) -> Dims {
+        Dims { list: self.none() }
+    }
+
+    pub fn brackets(&self) -> Dims {
+        Dims {
+            list: self.one((self.tok("["), self.tok("]"))),
+        }
+    }
+
+    pub fn prim(&self, dims: Dims) -> TypeUse {
+        TypeUse {
+            base: TypeBase::Prim(self.tok("int")),
+            dims,
+        }
+    }
+
+    pub fn named(&self) -> TypeUse {
+        TypeUse {
+            base: TypeBase::Named(self.id("T")),
+            dims: self.no_dims(),
+        }
+    }
+
+    pub fn word(&self, word: &str) -> Mod {
+        Mod::Word(self.tok(word))
+    }
+
+    pub fn mark(&self, parens: Option<(Tok, Tok)>) -> Mod {
+        Mod::Mark {
+            at: self.tok("@"),
+            id: self.tok("Override"),
+            parens,
+        }
+    }
+
+    pub fn name(&self, text: &str) -> Box<Expr> {
+        self.boxed(Expr::Name(self.id(text)))
+    }
+
+    pub fn lit(&self) -> Box<Expr> {
+        self.boxed(Expr::Lit(self.tok("1")))
+    }
+
+    pub fn this(&self) -> Box<Expr> {
+        self.boxed(Expr::This(self.tok("this")))
+    }
+
+    pub fn binary(&self, left: Box<Expr>, op: &str, right: Box<Expr>) -> Box<Expr> {
+        self.boxed(Expr::Binary(left, self.tok(op), right))
+    }
+
+    pub fn assign(&self, left: Box<Expr>, value: Box<Expr>) -> Box<Expr> {
+        self.boxed(Expr::Assign(left, self.tok("="), value))
+    }
+
+    pub fn cond(&self, test: Box<Expr>, then: Box<Expr>, other: Box<Expr>) -> Box<Expr> {
+        self.boxed(Expr::Cond(test, self.tok("?"), then, self.tok(":"), other))
+    }
+
+    pub fn unary(&self, op: &str, value: Box<Expr>) -> Box<Expr> {
+        self.boxed(Expr::Unary(self.tok(op), value))
+    }
+
+    pub fn postfix(&self, value: Box<Expr>) -> Box<Expr> {
+        self.boxed(Expr::Postfix(value, self.tok("++")))
+    }
+
+    pub fn cast(&self, sort: TypeUse, value: Box<Expr>) -> Box<Expr> {
+        self.boxed(Expr::Cast(self.tok("("), sort, self.tok(")"), value))
+    }
+
+    pub fn paren(&self, value: Box<Expr>) -> Box<Expr> {
+        self.boxed(Expr::Paren(self.tok("("), value, self.tok(")")))
+    }
+
+    pub fn args(&self) -> Args {
+        Args {
+            left: self.tok("("),
+            list: None,
+            right: self.tok(")"),
+        }
+    }
+
+    pub fn call(&self) -> Box<Expr> {
+        self.boxed(Expr::Call {
+            on: None,
+            id: self.tok("f"),
+            args: self.args(),
+        })
+    }
+
+    pub fn field(&self, value: Box<Expr>) -> Box<Expr> {
+        self.boxed(Expr::Field(value, self.tok("."), self.tok("x")))
+    }
+
+    pub fn index(&self, value: Box<Expr>) -> Box<Expr> {
+        self.boxed(Expr::Index(value, self.tok("["), self.lit(), self.tok("]")))
+    }
+
+    /// `new int[1]`, with these brackets behind it.
+    pub fn new_array(&self, dims: Dims) -> Box<Expr> {
+        self.boxed(Expr::NewArray {
+            word: self.tok("new"),
+            base: TypeBase::Prim(self.tok("int")),
+            sizes: self.one((self.tok("["), Expr::Lit(self.tok("1")), self.tok("]"))),
+            dims,
+        })
+    }
+
+    /// `new int` with these brackets and `{}`.
+    pub fn new_init(&self, dims: Dims) -> Box<Expr> {
+        self.boxed(Expr::NewInit {
+            word: self.tok("new"),
+            base: TypeBase::Prim(self.tok("int")),
+            dims,
+            init: Braces {
+                left: self.tok("{"),
+                items: None,
+                comma: None,
+                right: self.tok("}"),
+            },
+        })
+    }
+
+    pub fn empty(&self) -> Box<Stmt> {
+        self.boxed(Stmt::Empty(self.tok(";")))
+    }
+
+    pub fn run(&self, value: Box<Expr>) -> Box<Stmt> {
+        self.boxed(Stmt::Value(Box::into_inner(value), self.tok(";")))
+    }
+
+    pub fn if_then(&self, then: Box<Stmt>, other: Option<(Tok, Box<Stmt>)>) -> Box<Stmt> {
+        self.boxed(Stmt::If {
+            word: self.tok("if"),
+            left: self.tok("("),
+            test: Expr::Name(self.id("a")),
+            right: self.tok(")"),
+            then,
+            other,
+        })
+    }
+
+    pub fn or_else(&self, other: Box<Stmt>) -> Option<(Tok, Box<Stmt>)> {
+        Some((self.tok("else"), other))
+    }
+
+    pub fn while_do(&self, body: Box<Stmt>) -> Box<Stmt> {
+        self.boxed(Stmt::While {
+            word: self.tok("while"),
+            left: self.tok("("),
+            test: Expr::Name(self.id("a")),
+            right: self.tok(")"),
+            body,
+        })
+    }
+
+    /// `for (first; a; last) ;`
+    pub fn for_with(&self, first: ForFirst, last: Option<Many<Expr>>) -> Box<Stmt> {
+        self.boxed(Stmt::For {
+            word: self.tok("for"),
+            left: self.tok("("),
+            first,
+            semi1: self.tok(";"),
+            test: Some(Expr::Name(self.id("a"))),
+            semi2: self.tok(";"),
+            last,
+            right: self.tok(")"),
+            body: self.empty(),
+        })
+    }
+
+    pub fn one_expr(&self, expr: Box<Expr>) -> Option<Many<Expr>> {
+        Some(Many {
+            first: expr,
+            rest: self.none(),
+        })
+    }
+
+    /// `int a;` with these modifiers.
+    pub fn local(&self, mods: List<Mod>) -> Box<Stmt> {
+        let var = Var {
+            id: self.tok("a"),
+            dims: self.no_dims(),
+            init: None,
+        };
+        let local = Local {
+            mods,
+            sort: self.prim(self.no_dims()),
+            vars: self.only(var),
+        };
+        self.boxed(Stmt::Local(local, self.tok(";")))
+    }
+
+    pub fn block(&self) -> Block {
+        Block {
+            left: self.tok("{"),
+            list: self.none(),
+            right: self.tok("}"),
+        }
+    }
+
+    pub fn try_with(&self, last: Option<(Tok, Block)>) -> Box<Stmt> {
+        self.boxed(Stmt::Try {
+            word: self.tok("try"),
+            body: self.block(),
+            catches: self.none(),
+            last,
+        })
+    }
+}
