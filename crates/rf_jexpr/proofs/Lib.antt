@@ -1,3 +1,10 @@
+mod AnswerLemmas
+mod CalledLemmas
+mod CursorLemmas
+mod FormLemmas
+mod GrowthLemmas
+mod RoomLemmas
+mod TurnLemmas
 pub mod Bounded
 pub mod CallNames
 pub mod CastLemmas
@@ -10,7 +17,6 @@ pub mod CompletePrimary
 pub mod CompleteRooms
 pub mod CompleteTop
 pub mod CompleteUnary
-mod CursorLemmas
 pub mod Final
 pub mod First
 pub mod LoopLemmas
@@ -21,5 +27,4 @@ pub mod SoundPrimary
 pub mod Standing
 pub mod StopLemmas
 pub mod Tools
-mod TurnLemmas
 pub mod Within

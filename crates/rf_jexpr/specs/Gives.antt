@@ -1,9 +1,12 @@
 -- What the code gives of what a reader reads: the tokens are those from a place on, and the rest those from the place
 -- behind what was read.
 use Rattle.std.specs.Prelude.{◌≡◌, ℕ, ◌≤◌, List, drop, length, Option, Some, None, Result, Ok, Err, Bool}
+use Rattle.rf_jtree.specs.declared.exprs.Expr.{Expr}
 use Rattle.rf_jtree.specs.declared.tokens.Tok.{Tok}
 use Rattle.rf_jfit.specs.declared.operators.TheConstants.{ASSIGNMENTS, PREFIXES, SUFFIXES}
 use Rattle.rf_jfit.specs.declared.words.TheConstants.{PRIMITIVES}
+use Rattle.rf_jfit.specs.ExprShown.{expr_shown}
+use Rattle.rf_jfit.specs.ExprTrees.{ExprTree, expr_depth}
 use Rattle.rf_jfit.specs.Kinds.{is_key_of, is_literal, is_op_of}
 use Rattle.rf_jexpr.specs.declared.cursor.Want.{Want}
 use Rattle.rf_jexpr.specs.declared.cursor.Want.TheVariants as want
@@ -49,3 +52,9 @@ abbrev pub GivesTree : {A B : Type 0} → (A → B) → (B → ℕ) → ℕ → 
 GivesTree shown depth room toks at (Ok x) read = IsFound shown depth room toks at read x
 GivesTree shown depth room toks at (Err NoTree) read = read ≡ None
 GivesTree shown depth room toks at (Err Memory) read = Unit {0}
+
+-- an expression itself, no deeper than the room, and the number of the token behind it
+abbrev pub GivesExpr : ℕ → List Tok → ℕ → Result (Expr × ℕ) ParseErr → Option (ExprTree × List Tok) → Type 0
+GivesExpr room toks at (Ok x) read = (read ≡ Some (expr_shown x.0, drop x.1 toks)) × (at ≤ x.1) × (x.1 ≤ length toks) × (expr_depth (expr_shown x.0) ≤ room)
+GivesExpr room toks at (Err NoTree) read = read ≡ None
+GivesExpr room toks at (Err Memory) read = Unit {0}

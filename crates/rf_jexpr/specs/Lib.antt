@@ -1,8 +1,10 @@
 pub mod Descent
 pub mod Gives
 pub mod Longest
+pub mod Made
 pub mod NameReads
 pub mod PartReads
 pub mod PrimaryReads
 pub mod Reads
 pub mod Stops
+pub mod Tails

@@ -1,0 +1,91 @@
+-- Tests of expressions, and what lists of parts show as and how deep they are.
+use Rattle.std.proofs.Common.{◌≡◌, max, List, [], ◌∷◌, Option, Some, None, map, Bool, true, false, IsTrue, ◌↔◌, refl, ap, sym}
+use Rattle.rf_jtree.specs.declared.exprs.Args.{Args}
+use Rattle.rf_jtree.specs.declared.exprs.Expr.{Expr}
+use Rattle.rf_jtree.specs.declared.exprs.Init.{Init}
+use Rattle.rf_jtree.specs.declared.names.Many.{Many}
+use Rattle.rf_jtree.specs.declared.tokens.Tok.{Tok}
+use Rattle.rf_jfit.specs.ExprFits.{IsLeftSide, IsNoName, IsNoNewArray}
+use Rattle.rf_jfit.specs.ExprShown.{expr_shown, init_shown, more_exprs_tree, more_exprs_shown, exprs_shown, more_inits_tree, more_inits_shown, inits_shown, sizes_tree, sizes_shown, super_args_tree, super_args_shown}
+use Rattle.rf_jfit.specs.ExprTrees.{ExprTree, Name, Field, Super, NoArgs, Index, NewArray, InitTree, more_exprs_depth, more_inits_depth, sizes_depth}
+use Rattle.rf_jfit.specs.ExprTrees as t
+use Rattle.rf_jfit.specs.NameTrees.{list_depth}
+use Rattle.rf_jexpr.specs.Descent.{is_left_side}
+use Rattle.rf_jexpr.specs.Made.{item_shown, item_depth, init_item_shown, init_item_depth, size_shown, size_depth, exprs_found, inits_found, super_args_found}
+use Rattle.rf_jexpr.specs.PartReads.{exprs_of, inits_of}
+use Rattle.rf_jexpr.specs.PrimaryReads.{is_no_name, is_no_new_array}
+
+-- ---- lists of parts
+
+more_exprs-shown : (rest : List (Tok × Expr)) → more_exprs_tree (map item_shown rest) ≡ more_exprs_shown rest
+more_exprs-shown [] = refl
+more_exprs-shown (item ∷ rest) = ap (t.MoreExprs item.0 (expr_shown item.1)) (more_exprs-shown rest)
+
+pub exprs-shown : (list : Option (Many Expr)) → exprs_of (exprs_found list) ≡ exprs_shown list
+unfolding exprs_of
+exprs-shown None = refl
+exprs-shown (Some list) = ap (t.Exprs (expr_shown list.first.value)) (more_exprs-shown list.rest)
+
+pub more_exprs-depth : (rest : List (Tok × ExprTree)) → more_exprs_depth (more_exprs_tree rest) ≡ list_depth item_depth rest
+more_exprs-depth [] = refl
+more_exprs-depth (item ∷ rest) = ap (max (item_depth item)) (more_exprs-depth rest)
+
+more_inits-shown : (rest : List (Tok × Init)) → more_inits_tree (map init_item_shown rest) ≡ more_inits_shown rest
+more_inits-shown [] = refl
+more_inits-shown (item ∷ rest) = ap (t.MoreInits item.0 (init_shown item.1)) (more_inits-shown rest)
+
+pub inits-shown : (list : Option (Many Init)) → inits_of (inits_found list) ≡ inits_shown list
+unfolding inits_of
+inits-shown None = refl
+inits-shown (Some list) = ap (t.Inits (init_shown list.first.value)) (more_inits-shown list.rest)
+
+pub more_inits-depth : (rest : List (Tok × InitTree)) → more_inits_depth (more_inits_tree rest) ≡ list_depth init_item_depth rest
+more_inits-depth [] = refl
+more_inits-depth (item ∷ rest) = ap (max (init_item_depth item)) (more_inits-depth rest)
+
+pub sizes-shown : (sizes : List (Tok × Expr × Tok)) → sizes_tree (map size_shown sizes) ≡ sizes_shown sizes
+sizes-shown [] = refl
+sizes-shown (size ∷ rest) = ap (t.Sizes size.0 (expr_shown size.1) size.2) (sizes-shown rest)
+
+pub sizes-depth : (sizes : List (Tok × ExprTree × Tok)) → sizes_depth (sizes_tree sizes) ≡ list_depth size_depth sizes
+sizes-depth [] = refl
+sizes-depth (size ∷ rest) = ap (max (size_depth size)) (sizes-depth rest)
+
+pub super_args-shown : (list : Option Args) → super_args_tree (super_args_found list) ≡ super_args_shown list
+super_args-shown None = refl
+super_args-shown (Some list) = refl
+
+-- ---- tests
+
+same_tests : (one other : Bool) → (IsTrue one → IsTrue other) → (IsTrue other → IsTrue one) → one ≡ other
+same_tests true true h k = refl
+same_tests true false h k = sym (h refl)
+same_tests false true h k = k refl
+same_tests false false h k = refl
+
+no_name-is : (tree : ExprTree) → IsTrue (is_no_name tree) ↔ IsNoName tree
+unfolding is_no_name
+no_name-is (Name found) = (λ h. cc, λ h. absurd h)
+no_name-is tree = (λ h. tt, λ h. refl)
+
+pub no_name-exact : (found : Bool) (tree : ExprTree) → (IsTrue found ↔ IsNoName tree) → found ≡ is_no_name tree
+no_name-exact found tree h = same_tests found (is_no_name tree) (λ r. (no_name-is tree).1 (h.0 r)) (λ r. h.1 ((no_name-is tree).0 r))
+
+no_new_array-is : (tree : ExprTree) → IsTrue (is_no_new_array tree) ↔ IsNoNewArray tree
+unfolding is_no_new_array
+no_new_array-is (NewArray word base sizes dims) = (λ h. cc, λ h. absurd h)
+no_new_array-is tree = (λ h. tt, λ h. refl)
+
+pub no_new_array-exact : (found : Bool) (tree : ExprTree) → (IsTrue found ↔ IsNoNewArray tree) → found ≡ is_no_new_array tree
+no_new_array-exact found tree h = same_tests found (is_no_new_array tree) (λ r. (no_new_array-is tree).1 (h.0 r)) (λ r. h.1 ((no_new_array-is tree).0 r))
+
+left_side-is : (tree : ExprTree) → IsTrue (is_left_side tree) ↔ IsLeftSide tree
+unfolding is_left_side
+left_side-is (Name found) = (λ h. tt, λ h. refl)
+left_side-is (Field value dot id) = (λ h. tt, λ h. refl)
+left_side-is (Super word dot id NoArgs) = (λ h. tt, λ h. refl)
+left_side-is (Index value left index right) = (λ h. tt, λ h. refl)
+left_side-is tree = (λ h. cc, λ h. absurd h)
+
+pub left_side-exact : (found : Bool) (tree : ExprTree) → (IsTrue found ↔ IsLeftSide tree) → found ≡ is_left_side tree
+left_side-exact found tree h = same_tests found (is_left_side tree) (λ r. (left_side-is tree).1 (h.0 r)) (λ r. h.1 ((left_side-is tree).0 r))

@@ -1,0 +1,6 @@
+use Rattle.rf_jfit.proofs.ExprShows.{expr_shown-NewArray}
+use Rattle.rf_jexpr.proofs.FormLemmas.{sizes-shown}
+use Rattle.rf_jexpr.proofs.forms.array_of.Goals as goal
+
+pub returns : goal.returns
+returns c = rw sizes-shown (rw expr_shown-NewArray at c.boxed.ensures)

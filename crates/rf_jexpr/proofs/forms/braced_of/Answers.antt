@@ -1,0 +1,5 @@
+use Rattle.rf_jfit.proofs.ExprShows.{init_shown-Braced}
+use Rattle.rf_jexpr.proofs.forms.braced_of.Goals as goal
+
+pub returns : goal.returns
+returns c = rw init_shown-Braced at c.boxed_init.ensures

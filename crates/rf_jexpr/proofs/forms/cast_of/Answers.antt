@@ -1,0 +1,5 @@
+use Rattle.rf_jfit.proofs.ExprShows.{expr_shown-Cast}
+use Rattle.rf_jexpr.proofs.forms.cast_of.Goals as goal
+
+pub returns : goal.returns
+returns c = rw expr_shown-Cast at c.boxed.ensures

@@ -1,0 +1,5 @@
+use Rattle.rf_jfit.proofs.ExprShows.{expr_shown-NewInit}
+use Rattle.rf_jexpr.proofs.forms.filled_of.Goals as goal
+
+pub returns : goal.returns
+returns c = rw expr_shown-NewInit at c.boxed.ensures

@@ -1,0 +1,5 @@
+use Rattle.rf_jfit.proofs.ExprShows.{expr_shown-Lit}
+use Rattle.rf_jexpr.proofs.forms.literal_of.Goals as goal
+
+pub returns : goal.returns
+returns c = rw expr_shown-Lit at c.boxed.ensures

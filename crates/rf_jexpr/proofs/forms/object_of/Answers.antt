@@ -1,0 +1,5 @@
+use Rattle.rf_jfit.proofs.ExprShows.{expr_shown-New}
+use Rattle.rf_jexpr.proofs.forms.object_of.Goals as goal
+
+pub returns : goal.returns
+returns c = rw expr_shown-New at c.boxed.ensures

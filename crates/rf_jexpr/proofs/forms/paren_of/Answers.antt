@@ -1,0 +1,5 @@
+use Rattle.rf_jfit.proofs.ExprShows.{expr_shown-Paren}
+use Rattle.rf_jexpr.proofs.forms.paren_of.Goals as goal
+
+pub returns : goal.returns
+returns c = rw expr_shown-Paren at c.boxed.ensures

@@ -1,0 +1,6 @@
+use Rattle.rf_jfit.proofs.ExprShows.{expr_shown-Super}
+use Rattle.rf_jexpr.proofs.FormLemmas.{super_args-shown}
+use Rattle.rf_jexpr.proofs.forms.super_of.Goals as goal
+
+pub returns : goal.returns
+returns c = rw super_args-shown (rw expr_shown-Super at c.boxed.ensures)

@@ -1,0 +1,5 @@
+use Rattle.rf_jfit.proofs.ExprShows.{init_shown-Value}
+use Rattle.rf_jexpr.proofs.forms.value_of.Goals as goal
+
+pub returns : goal.returns
+returns c = rw (init_shown-Value, c.into_inner.ensures) at c.boxed_init.ensures

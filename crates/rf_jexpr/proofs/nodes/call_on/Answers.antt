@@ -1,0 +1,5 @@
+use Rattle.rf_jfit.proofs.ExprShows.{expr_shown-Call}
+use Rattle.rf_jexpr.proofs.nodes.call_on.Goals as goal
+
+pub returns : goal.returns
+returns c = rw expr_shown-Call at c.boxed.ensures

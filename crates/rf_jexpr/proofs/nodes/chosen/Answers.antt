@@ -1,0 +1,5 @@
+use Rattle.rf_jfit.proofs.ExprShows.{expr_shown-Cond}
+use Rattle.rf_jexpr.proofs.nodes.chosen.Goals as goal
+
+pub returns : goal.returns
+returns c = rw expr_shown-Cond at c.boxed.ensures

@@ -1,0 +1,5 @@
+use Rattle.rf_jfit.proofs.ExprShows.{expr_shown-Field}
+use Rattle.rf_jexpr.proofs.nodes.field_of.Goals as goal
+
+pub returns : goal.returns
+returns c = rw expr_shown-Field at c.boxed.ensures

@@ -1,0 +1,5 @@
+use Rattle.rf_jfit.proofs.ExprShows.{expr_shown-Index}
+use Rattle.rf_jexpr.proofs.nodes.item_of.Goals as goal
+
+pub returns : goal.returns
+returns c = rw expr_shown-Index at c.boxed.ensures

@@ -1,0 +1,43 @@
+-- What stands behind an expression, and the greater expression that both are.
+use Rattle.std.specs.Prelude.{◌≡◌}
+use Rattle.std.specs.declared.alloc.Global.{Global}
+use Rattle.std.specs.declared.boxed.Box.{Box}
+use Rattle.rf_jtree.specs.declared.exprs.Args.{Args}
+use Rattle.rf_jtree.specs.declared.exprs.Expr.{Expr}
+use Rattle.rf_jfit.specs.ExprShown.{args_shown}
+use Rattle.rf_jfit.specs.ExprTrees.{ExprTree}
+use Rattle.rf_jfit.specs.ExprTrees as t
+use Rattle.rf_jfit.specs.NameShown.{type_shown}
+use Rattle.rf_jfit.specs.NameTrees.{NameTree}
+use Rattle.rf_jexpr.specs.declared.found.Found.{Found}
+use Rattle.rf_jexpr.specs.declared.nodes.Choice.{Choice}
+use Rattle.rf_jexpr.specs.declared.nodes.Operation.{Operation}
+use Rattle.rf_jexpr.specs.declared.nodes.Suffix.{Suffix}
+use Rattle.rf_jexpr.specs.declared.nodes.Suffix.TheVariants as suffix
+use Rattle.rf_jexpr.specs.declared.nodes.Tail.{Tail}
+use Rattle.rf_jexpr.specs.declared.nodes.Tail.TheVariants as tail
+use Rattle.rf_jexpr.specs.Made.{boxed_shown}
+use Rattle.rf_jexpr.specs.PrimaryReads.{called_on, called_id}
+
+abbrev pub assigned : ExprTree → Operation → ExprTree
+assigned left x = t.Assign left x.op (boxed_shown x.value)
+
+abbrev pub chosen : ExprTree → Choice → ExprTree
+chosen test x = t.Cond test x.mark (boxed_shown x.first) x.colon (boxed_shown x.other)
+
+abbrev pub operated : ExprTree → Tail → ExprTree
+operated left (tail.Binary x) = t.Binary left x.op (boxed_shown x.value)
+operated left (tail.Instance word sort) = t.Instance left word (type_shown sort)
+
+abbrev pub suffixed : ExprTree → Suffix → ExprTree
+suffixed on (suffix.Call dot id list) = t.Call (t.On on dot) id (args_shown list)
+suffixed on (suffix.Field dot id) = t.Field on dot id
+suffixed on (suffix.Item left index right) = t.Index on left (boxed_shown index) right
+
+-- a call whose method is the last identifier of a name
+abbrev pub named_called : NameTree → Args → ExprTree
+named_called found list = t.Call (called_on found.ids.first found.ids.rest) (called_id found.ids.first found.ids.rest) (args_shown list)
+
+-- the greater expression
+abbrev pub IsJoined : {A : Type 0} → (A → ExprTree) → Found A → Found (Box Expr Global) → Type 0
+IsJoined joined tail x = (boxed_shown x.tree ≡ joined tail.tree) × (x.end ≡ tail.end) × (x.depth ≡ tail.depth)

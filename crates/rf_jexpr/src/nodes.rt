@@ -1,0 +1,189 @@
+ghost use Rattle.std.specs.Prelude.{◌≡◌, IfOk};
+ghost use Rattle.rf_jfit.specs.ExprShown.{args_shown};
+ghost use Rattle.rf_jfit.specs.ExprTrees.{on_depth};
+ghost use Rattle.rf_jfit.specs.ExprTrees as trees;
+ghost use Rattle.rf_jfit.specs.NameShown.{name_shown, type_shown};
+ghost use Rattle.rf_jexpr.specs.Made.{boxed_shown};
+ghost use Rattle.rf_jexpr.specs.PrimaryReads.{called_on};
+ghost use Rattle.rf_jexpr.specs.Tails.{IsJoined, assigned, chosen, operated, suffixed, named_called};
+
+use crate::forms::{boxed, name_of};
+use crate::found::Found;
+use rf_jtree::{Args, Expr, Many, Name, Tok, TypeUse};
+use rf_text::Memory;
+use std::alloc::Global;
+
+// What stands behind an expression and takes it into a greater one; its depth is that of the greater one.
+
+/// An operator and its right operand, behind the left one.
+#[derive(Debug, Drop)]
+pub(crate) struct Operation {
+    pub op: Tok,
+    pub value: Box<Expr>,
+}
+
+/// `? first : other` behind a test.
+#[derive(Debug, Drop)]
+pub(crate) struct Choice {
+    pub mark: Tok,
+    pub first: Box<Expr>,
+    pub colon: Tok,
+    pub other: Box<Expr>,
+}
+
+/// What stands behind an operand.
+#[derive(Debug, Drop)]
+pub(crate) enum Tail {
+    Binary(Operation),
+    Instance(Tok, TypeUse),
+}
+
+/// What stands behind a primary expression.
+#[derive(Debug, Drop)]
+pub(crate) enum Suffix {
+    Call(Tok, Tok, Args),
+    Field(Tok, Tok),
+    Item(Tok, Box<Expr>, Tok),
+}
+
+pub(crate) fn assigned(alloc: Global, left: Box<Expr>, tail: Operation) -> Result<Box<Expr>, Memory>
+    ensures { IfOk result (λ found. boxed_shown found ≡ assigned (boxed_shown left) tail) }
+{
+    boxed(alloc, Expr::Assign(left, tail.op, tail.value))
+}
+
+pub(crate) fn chosen(alloc: Global, test: Box<Expr>, tail: Choice) -> Result<Box<Expr>, Memory>
+    ensures { IfOk result (λ found. boxed_shown found ≡ chosen (boxed_shown test) tail) }
+{
+    boxed(
+        alloc,
+        Expr::Cond(test, tail.mark, tail.first, tail.colon, tail.other),
+    )
+}
+
+fn binary_of(alloc: Global, left: Box<Expr>, operation: Operation) -> Result<Box<Expr>, Memory>
+    ensures { IfOk result (λ found. boxed_shown found ≡ trees.Binary (boxed_shown left) operation.op (boxed_shown operation.value)) }
+{
+    boxed(alloc, Expr::Binary(left, operation.op, operation.value))
+}
+
+fn instance_of(
+    alloc: Global,
+    value: Box<Expr>,
+    word: Tok,
+    sort: TypeUse,
+) -> Result<Box<Expr>, Memory>
+    ensures { IfOk result (λ found. boxed_shown found ≡ trees.Instance (boxed_shown value) word (type_shown sort)) }
+{
+    boxed(alloc, Expr::Instance(value, word, sort))
+}
+
+fn tail_joined(alloc: Global, left: Box<Expr>, tail: Tail) -> Result<Box<Expr>, Memory>
+    ensures { IfOk result (λ found. boxed_shown found ≡ operated (boxed_shown left) tail) }
+{
+    match tail {
+        Tail::Binary(operation) => binary_of(alloc, left, operation),
+        Tail::Instance(word, sort) => instance_of(alloc, left, word, sort),
+    }
+}
+
+pub(crate) fn operated(
+    alloc: Global,
+    left: Found<Box<Expr>>,
+    tail: Found<Tail>,
+) -> Result<Found<Box<Expr>>, Memory>
+    ensures { IfOk result (IsJoined (operated (boxed_shown left.tree)) tail) }
+{
+    let tree = tail_joined(alloc, left.tree, tail.tree)?;
+    Ok(Found {
+        tree,
+        end: tail.end,
+        depth: tail.depth,
+    })
+}
+
+/// A method called on an expression.
+fn call_on(alloc: Global, on: Box<Expr>, dot: Tok, id: Tok, args: Args) -> Result<Box<Expr>, Memory>
+    ensures { IfOk result (λ found. boxed_shown found ≡ trees.Call (trees.On (boxed_shown on) dot) id (args_shown args)) }
+{
+    let on = Some((on, dot));
+    boxed(alloc, Expr::Call { on, id, args })
+}
+
+/// A method called on nothing.
+fn call_alone(alloc: Global, id: Tok, args: Args) -> Result<Box<Expr>, Memory>
+    ensures { IfOk result (λ found. boxed_shown found ≡ trees.Call trees.NoOn id (args_shown args)) }
+{
+    boxed(alloc, Expr::Call { on: None, id, args })
+}
+
+fn field_of(alloc: Global, on: Box<Expr>, dot: Tok, id: Tok) -> Result<Box<Expr>, Memory>
+    ensures { IfOk result (λ found. boxed_shown found ≡ trees.Field (boxed_shown on) dot id) }
+{
+    boxed(alloc, Expr::Field(on, dot, id))
+}
+
+/// An item of an array.
+fn item_of(
+    alloc: Global,
+    on: Box<Expr>,
+    left: Tok,
+    place: Box<Expr>,
+    right: Tok,
+) -> Result<Box<Expr>, Memory>
+    ensures { IfOk result (λ found. boxed_shown found ≡ trees.Index (boxed_shown on) left (boxed_shown place) right) }
+{
+    boxed(alloc, Expr::Index(on, left, place, right))
+}
+
+fn suffix_joined(alloc: Global, on: Box<Expr>, suffix: Suffix) -> Result<Box<Expr>, Memory>
+    ensures { IfOk result (λ found. boxed_shown found ≡ suffixed (boxed_shown on) suffix) }
+{
+    match suffix {
+        Suffix::Call(dot, id, args) => call_on(alloc, on, dot, id, args),
+        Suffix::Field(dot, id) => field_of(alloc, on, dot, id),
+        Suffix::Item(left, index, right) => item_of(alloc, on, left, index, right),
+    }
+}
+
+pub(crate) fn suffixed(
+    alloc: Global,
+    on: Found<Box<Expr>>,
+    tail: Found<Suffix>,
+) -> Result<Found<Box<Expr>>, Memory>
+    ensures { IfOk result (IsJoined (suffixed (boxed_shown on.tree)) tail) }
+{
+    let tree = suffix_joined(alloc, on.tree, tail.tree)?;
+    Ok(Found {
+        tree,
+        end: tail.end,
+        depth: tail.depth,
+    })
+}
+
+/// How deep what a method of this name is called on is.
+#[tactic(auto, unfolding(crate::specs::PrimaryReads::called_on))]
+pub(crate) fn depth_called_on(name: &Name) -> usize
+    ensures { result ≡ on_depth (called_on (name_shown name.now).ids.first (name_shown name.now).ids.rest) }
+{
+    match name.ids.rest.as_slice() {
+        [] => 0,
+        [_, ..] => 1,
+    }
+}
+
+/// A call whose method is the last identifier of the name.
+#[tactic(auto, using(crate::proofs::CalledLemmas::called))]
+pub(crate) fn named_called(alloc: Global, name: Name, args: Args) -> Result<Box<Expr>, Memory>
+    ensures { IfOk result (λ found. boxed_shown found ≡ named_called (name_shown name) args) }
+{
+    let Many { first, mut rest } = name.ids;
+    match rest.pop() {
+        None => call_alone(alloc, Box::into_inner(first), args),
+        Some((dot, id)) => {
+            let ids = Many { first, rest };
+            let on = name_of(alloc, Name { ids })?;
+            call_on(alloc, on, dot, id, args)
+        }
+    }
+}

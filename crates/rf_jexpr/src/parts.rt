@@ -1,0 +1,300 @@
+ghost use Rattle.std.specs.Prelude.{◌≡◌, ◌≤◌, ◌<◌, ◌+◌, drop, length, map, IfOk};
+ghost use Rattle.rf_jfit.specs.declared.operators.TheConstants.{COMMA};
+ghost use Rattle.rf_jfit.specs.ExprShown.{args_shown, braces_shown};
+ghost use Rattle.rf_jfit.specs.ExprTrees.{expr_depth, args_depth, braces_depth};
+ghost use Rattle.rf_jfit.specs.NameTrees.{list_depth};
+ghost use Rattle.rf_jexpr.specs.Descent.{parsers};
+ghost use Rattle.rf_jexpr.specs.Gives.{GivesTree, IsFound, IsTaken};
+ghost use Rattle.rf_jexpr.specs.Made.{boxed_shown, bracketed_shown, item_shown, item_depth, init_item_shown, init_item_depth, size_shown, size_depth, exprs_found, found_depth, inits_found, inits_found_depth};
+ghost use Rattle.rf_jexpr.specs.PartReads.{paren, args, sized, braces};
+ghost use Rattle.rf_jexpr.specs.Reads.{is_op, token, many, behind, separated, optional};
+
+use crate::ParseErr;
+use crate::cursor::{Want, take};
+use crate::forms::{args_of, braces_of, grown, paren_of};
+use crate::found::{Found, Taken, attempt, deeper};
+use crate::top::{expr, init};
+use rf_jfit::operators::{
+    COMMA, LEFT_BRACE, LEFT_BRACKET, LEFT_PAREN, RIGHT_BRACE, RIGHT_BRACKET, RIGHT_PAREN,
+};
+use rf_jtree::{Args, Braces, Expr, Init, Many, Tok};
+use rf_text::{List, Memory};
+use std::alloc::Global;
+
+// The parts of an expression that stand in brackets of their own. In each, `room` is what is left for the parts.
+
+/// An expression in parentheses (JLS 15.8.5).
+#[cycle(expr)]
+#[tactic(auto, unfolding(crate::specs::PartReads::paren, crate::specs::Reads::and_then))]
+pub(crate) fn paren(
+    alloc: Global,
+    t: &[Tok],
+    at: usize,
+    room: u32,
+) -> Result<Found<Box<Expr>>, ParseErr>
+    ensures { GivesTree boxed_shown expr_depth (room + 1) t.now at result (paren (parsers room) (drop at t.now)) }
+{
+    let left = take(alloc, t, at, Want::Op(LEFT_PAREN))?;
+    let value = expr(alloc, t, left.end, room)?;
+    let right = take(alloc, t, value.end, Want::Op(RIGHT_PAREN))?;
+    let tree = paren_of(alloc, left.item, value.tree, right.item)?;
+    Ok(Found {
+        tree,
+        end: right.end,
+        depth: value.depth + 1,
+    })
+}
+
+/// A comma and an expression.
+#[cycle(expr)]
+#[tactic(auto, unfolding(crate::specs::Reads::behind, crate::specs::Reads::and_then))]
+fn next_expr(alloc: Global, t: &[Tok], at: usize, room: u32) -> Result<Found<(Tok, Expr)>, ParseErr>
+    ensures gives { GivesTree item_shown item_depth room t.now at result (behind (is_op COMMA) (parsers room).expr (drop at t.now)) }
+    ensures forth { IfOk result (λ x. at < x.end) }
+{
+    let comma = take(alloc, t, at, Want::Op(COMMA))?;
+    let value = expr(alloc, t, comma.end, room)?;
+    Ok(Found {
+        tree: (comma.item, Box::into_inner(value.tree)),
+        end: value.end,
+        depth: value.depth,
+    })
+}
+
+/// Commas and expressions, as many as stand there.
+#[cycle(expr)]
+fn more_exprs(
+    alloc: Global,
+    t: &[Tok],
+    at: usize,
+    room: u32,
+) -> Result<Found<List<(Tok, Expr)>>, Memory>
+    requires { at ≤ length t.now }
+    ensures { IfOk result (IsFound (map item_shown) (list_depth item_depth) room t.now at (many (behind (is_op COMMA) (parsers room).expr) (drop at t.now))) }
+{
+    let mut more = Found {
+        tree: List::new(alloc),
+        end: at,
+        depth: 0,
+    };
+    'items: while let Some(next) = attempt(next_expr(alloc, t, more.end, room))? {
+        more = grown(more, next)?;
+    }
+    Ok(more)
+}
+
+/// Expressions with commas between them, if any stand there.
+#[cycle(expr)]
+fn exprs(
+    alloc: Global,
+    t: &[Tok],
+    at: usize,
+    room: u32,
+) -> Result<Found<Option<Many<Expr>>>, Memory>
+    requires { at ≤ length t.now }
+    ensures { IfOk result (IsFound exprs_found found_depth room t.now at (optional (separated COMMA (parsers room).expr) (drop at t.now))) }
+{
+    let Some(first) = attempt(expr(alloc, t, at, room))? else {
+        return Ok(Found {
+            tree: None,
+            end: at,
+            depth: 0,
+        });
+    };
+    let rest = more_exprs(alloc, t, first.end, room)?;
+    Ok(Found {
+        tree: Some(Many {
+            first: first.tree,
+            rest: rest.tree,
+        }),
+        end: rest.end,
+        depth: deeper(first.depth, rest.depth),
+    })
+}
+
+/// Arguments in parentheses (JLS 15.12).
+#[cycle(expr)]
+#[tactic(auto, unfolding(crate::specs::PartReads::args, crate::specs::Reads::and_then))]
+pub(crate) fn args(alloc: Global, t: &[Tok], at: usize, room: u32) -> Result<Found<Args>, ParseErr>
+    ensures { GivesTree args_shown args_depth room t.now at result (args (parsers room) (drop at t.now)) }
+{
+    let left = take(alloc, t, at, Want::Op(LEFT_PAREN))?;
+    let list = exprs(alloc, t, left.end, room)?;
+    let right = take(alloc, t, list.end, Want::Op(RIGHT_PAREN))?;
+    Ok(Found {
+        tree: args_of(left.item, list.tree, right.item),
+        end: right.end,
+        depth: list.depth,
+    })
+}
+
+/// An expression in brackets: a size, or an index (JLS 15.10, 15.13).
+#[cycle(expr)]
+#[tactic(auto, unfolding(crate::specs::PartReads::sized, crate::specs::Reads::and_then))]
+pub(crate) fn bracketed(
+    alloc: Global,
+    t: &[Tok],
+    at: usize,
+    room: u32,
+) -> Result<Found<(Tok, Box<Expr>, Tok)>, ParseErr>
+    ensures gives { GivesTree bracketed_shown size_depth room t.now at result (sized (parsers room) (drop at t.now)) }
+    ensures forth { IfOk result (λ x. at < x.end) }
+{
+    let left = take(alloc, t, at, Want::Op(LEFT_BRACKET))?;
+    let value = expr(alloc, t, left.end, room)?;
+    let right = take(alloc, t, value.end, Want::Op(RIGHT_BRACKET))?;
+    Ok(Found {
+        tree: (left.item, value.tree, right.item),
+        end: right.end,
+        depth: value.depth,
+    })
+}
+
+/// A size in brackets (JLS 15.10).
+#[cycle(expr)]
+fn sized(
+    alloc: Global,
+    t: &[Tok],
+    at: usize,
+    room: u32,
+) -> Result<Found<(Tok, Expr, Tok)>, ParseErr>
+    ensures gives { GivesTree size_shown size_depth room t.now at result (sized (parsers room) (drop at t.now)) }
+    ensures forth { IfOk result (λ x. at < x.end) }
+{
+    let found = bracketed(alloc, t, at, room)?;
+    let (left, value, right) = found.tree;
+    Ok(Found {
+        tree: (left, Box::into_inner(value), right),
+        end: found.end,
+        depth: found.depth,
+    })
+}
+
+/// Sizes in brackets, as many as stand there.
+#[cycle(expr)]
+pub(crate) fn sizes(
+    alloc: Global,
+    t: &[Tok],
+    at: usize,
+    room: u32,
+) -> Result<Found<List<(Tok, Expr, Tok)>>, Memory>
+    requires { at ≤ length t.now }
+    ensures { IfOk result (IsFound (map size_shown) (list_depth size_depth) room t.now at (many (sized (parsers room)) (drop at t.now))) }
+{
+    let mut list = Found {
+        tree: List::new(alloc),
+        end: at,
+        depth: 0,
+    };
+    'items: while let Some(next) = attempt(sized(alloc, t, list.end, room))? {
+        list = grown(list, next)?;
+    }
+    Ok(list)
+}
+
+/// A comma and an item.
+#[cycle(expr)]
+#[tactic(auto, unfolding(crate::specs::Reads::behind, crate::specs::Reads::and_then))]
+fn next_init(alloc: Global, t: &[Tok], at: usize, room: u32) -> Result<Found<(Tok, Init)>, ParseErr>
+    ensures gives { GivesTree init_item_shown init_item_depth room t.now at result (behind (is_op COMMA) (parsers room).init (drop at t.now)) }
+    ensures forth { IfOk result (λ x. at < x.end) }
+{
+    let comma = take(alloc, t, at, Want::Op(COMMA))?;
+    let value = init(alloc, t, comma.end, room)?;
+    Ok(Found {
+        tree: (comma.item, Box::into_inner(value.tree)),
+        end: value.end,
+        depth: value.depth,
+    })
+}
+
+/// Commas and items, as many as stand there.
+#[cycle(expr)]
+fn more_inits(
+    alloc: Global,
+    t: &[Tok],
+    at: usize,
+    room: u32,
+) -> Result<Found<List<(Tok, Init)>>, Memory>
+    requires { at ≤ length t.now }
+    ensures { IfOk result (IsFound (map init_item_shown) (list_depth init_item_depth) room t.now at (many (behind (is_op COMMA) (parsers room).init) (drop at t.now))) }
+{
+    let mut more = Found {
+        tree: List::new(alloc),
+        end: at,
+        depth: 0,
+    };
+    'items: while let Some(next) = attempt(next_init(alloc, t, more.end, room))? {
+        more = grown(more, next)?;
+    }
+    Ok(more)
+}
+
+/// Items with commas between them, if any stand there.
+#[cycle(expr)]
+fn inits(
+    alloc: Global,
+    t: &[Tok],
+    at: usize,
+    room: u32,
+) -> Result<Found<Option<Many<Init>>>, Memory>
+    requires { at ≤ length t.now }
+    ensures { IfOk result (IsFound inits_found inits_found_depth room t.now at (optional (separated COMMA (parsers room).init) (drop at t.now))) }
+{
+    let Some(first) = attempt(init(alloc, t, at, room))? else {
+        return Ok(Found {
+            tree: None,
+            end: at,
+            depth: 0,
+        });
+    };
+    let rest = more_inits(alloc, t, first.end, room)?;
+    Ok(Found {
+        tree: Some(Many {
+            first: first.tree,
+            rest: rest.tree,
+        }),
+        end: rest.end,
+        depth: deeper(first.depth, rest.depth),
+    })
+}
+
+/// A comma, if one stands there.
+#[tactic(auto, unfolding(crate::specs::Reads::optional, crate::specs::Reads::and_then, crate::specs::Reads::or_else))]
+fn comma(alloc: Global, t: &[Tok], at: usize) -> Result<Taken<Option<Tok>>, Memory>
+    requires { at ≤ length t.now }
+    ensures { IfOk result (IsTaken (λ comma. comma) t.now at (optional (token (is_op COMMA)) (drop at t.now))) }
+{
+    match attempt(take(alloc, t, at, Want::Op(COMMA)))? {
+        Some(comma) => Ok(Taken {
+            item: Some(comma.item),
+            end: comma.end,
+        }),
+        None => Ok(Taken {
+            item: None,
+            end: at,
+        }),
+    }
+}
+
+/// Items in braces, with a comma behind the last one or without (JLS 10.6).
+#[cycle(expr)]
+#[tactic(auto, unfolding(crate::specs::PartReads::braces, crate::specs::Reads::and_then))]
+pub(crate) fn braces(
+    alloc: Global,
+    t: &[Tok],
+    at: usize,
+    room: u32,
+) -> Result<Found<Braces>, ParseErr>
+    ensures { GivesTree braces_shown braces_depth room t.now at result (braces (parsers room) (drop at t.now)) }
+{
+    let left = take(alloc, t, at, Want::Op(LEFT_BRACE))?;
+    let items = inits(alloc, t, left.end, room)?;
+    let comma = comma(alloc, t, items.end)?;
+    let right = take(alloc, t, comma.end, Want::Op(RIGHT_BRACE))?;
+    Ok(Found {
+        tree: braces_of(left.item, items.tree, comma.item, right.item),
+        end: right.end,
+        depth: items.depth,
+    })
+}
