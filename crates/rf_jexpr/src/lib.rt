@@ -14,6 +14,8 @@ mod parse_err;
 mod parts;
 mod primary;
 mod shapes;
+#[cfg(test)]
+mod tests;
 mod top;
 mod unary;
 
