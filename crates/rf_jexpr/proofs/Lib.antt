@@ -1,10 +1,11 @@
 mod AnswerLemmas
 mod CalledLemmas
-mod CursorLemmas
+pub mod CursorLemmas
 mod FormLemmas
-mod GrowthLemmas
-mod RoomLemmas
-mod TurnLemmas
+pub mod GrowthLemmas
+mod LongestLemmas
+pub mod RoomLemmas
+pub mod TurnLemmas
 pub mod Bounded
 pub mod CallNames
 pub mod CastLemmas

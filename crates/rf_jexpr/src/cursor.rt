@@ -61,7 +61,7 @@ pub(crate) fn copy_tok(alloc: Global, tok: &Tok) -> Result<Tok, Memory>
 }
 
 /// The token at this place, where the tokens go on so far.
-pub(crate) fn tok_at(t: &[Tok], at: usize) -> Option<&Tok>
+pub fn tok_at(t: &[Tok], at: usize) -> Option<&Tok>
     ensures value { option_copied result ≡ slice_get t.now at }
     ensures within { OnSome result (at < length t.now) }
 {
@@ -81,7 +81,7 @@ pub fn is_at(t: &[Tok], at: usize, want: Want) -> bool
 
 /// The token at this place, where it is what is wanted.
 #[tactic(auto, using(crate::proofs::CursorLemmas::places))]
-pub(crate) fn take(alloc: Global, t: &[Tok], at: usize, want: Want) -> Result<Taken<Tok>, ParseErr>
+pub fn take(alloc: Global, t: &[Tok], at: usize, want: Want) -> Result<Taken<Tok>, ParseErr>
     ensures gives { Gives (λ tok. tok) t.now at result (token (passes want) (drop at t.now)) }
     ensures end { IfOk result (λ x. x.end ≡ at + 1) }
 {

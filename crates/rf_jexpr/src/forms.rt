@@ -189,10 +189,7 @@ pub(crate) fn braced_of(alloc: Global, items: Braces) -> Result<Box<Init>, Memor
 }
 
 /// One part more behind those that were read.
-pub(crate) fn grown<T: Drop>(
-    mut parts: Found<List<T>>,
-    next: Found<T>,
-) -> Result<Found<List<T>>, Memory>
+pub fn grown<T: Drop>(mut parts: Found<List<T>>, next: Found<T>) -> Result<Found<List<T>>, Memory>
     ensures { IfOk result (IsGrown parts next) }
 {
     parts.tree.push(next.tree)?;

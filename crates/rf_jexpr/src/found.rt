@@ -6,21 +6,21 @@ use rf_text::Memory;
 
 /// What was read of the tokens, and the number of the token behind it.
 #[derive(Debug, Drop)]
-pub(crate) struct Taken<T> {
+pub struct Taken<T> {
     pub item: T,
     pub end: usize,
 }
 
 /// What was read of the tokens, the number of the token behind it, and how deep it is.
 #[derive(Debug, Drop)]
-pub(crate) struct Found<T> {
+pub struct Found<T> {
     pub tree: T,
     pub end: usize,
     pub depth: usize,
 }
 
 /// A part that may be left out: that it isn't there is no error.
-pub(crate) fn attempt<T>(tried: Result<T, ParseErr>) -> Result<Option<T>, Memory>
+pub fn attempt<T>(tried: Result<T, ParseErr>) -> Result<Option<T>, Memory>
     ensures { IsAttempt tried result }
 {
     match tried {
@@ -31,7 +31,7 @@ pub(crate) fn attempt<T>(tried: Result<T, ParseErr>) -> Result<Option<T>, Memory
 }
 
 /// The greater of two depths.
-pub(crate) fn deeper(first: usize, second: usize) -> usize
+pub fn deeper(first: usize, second: usize) -> usize
     ensures { result ≡ max first second }
 {
     if first < second { second } else { first }

@@ -19,7 +19,11 @@ mod tests;
 mod top;
 mod unary;
 
-pub use cursor::{Want, is_at};
+pub use cursor::{Want, is_at, take, tok_at};
+pub use forms::grown;
+pub use found::{Found, Taken, attempt, deeper};
 pub use laws::{expressions_begin_with, expressions_have_one_tree};
-pub use longest::expr;
+pub use longest::{args, boxed_expr, expr, init, name, type_use};
+pub use names::dims;
 pub use parse_err::ParseErr;
+pub use parts::exprs;

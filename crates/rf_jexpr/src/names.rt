@@ -75,7 +75,7 @@ fn brackets(alloc: Global, t: &[Tok], at: usize) -> Result<Taken<(Tok, Tok)>, Pa
 
 /// Pairs of brackets, as many as stand there.
 #[tactic(auto, using(crate::proofs::TurnLemmas::turns), unfolding(crate::specs::NameReads::dims, crate::specs::Reads::and_then))]
-pub(crate) fn dims(alloc: Global, t: &[Tok], at: usize) -> Result<Taken<Dims>, Memory>
+pub fn dims(alloc: Global, t: &[Tok], at: usize) -> Result<Taken<Dims>, Memory>
     requires { at ≤ length t.now }
     ensures { IfOk result (IsTaken (λ found. found) t.now at (dims (drop at t.now))) }
 {

@@ -85,7 +85,7 @@ fn more_exprs(
 
 /// Expressions with commas between them, if any stand there.
 #[cycle(expr)]
-fn exprs(
+pub fn exprs(
     alloc: Global,
     t: &[Tok],
     at: usize,
