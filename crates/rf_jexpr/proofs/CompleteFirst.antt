@@ -49,7 +49,7 @@ module _ (m : ℕ) (p : Parsers) where
   unfolding first_part begins is_key is_op
   to_super tok rest h = rw h refl
 
-  to_new : (tok : Tok) (rest : List Tok) → IsKey NEW tok → first_part m p (tok ∷ rest) ≡ creation p (tok ∷ rest)
+  pub to_new : (tok : Tok) (rest : List Tok) → IsKey NEW tok → first_part m p (tok ∷ rest) ≡ creation p (tok ∷ rest)
   unfolding first_part begins is_key is_op
   to_new tok rest h = rw h refl
 

@@ -78,10 +78,10 @@ no_new_array_test (NewArray word base sizes ends) h = absurd h
 no_new_array_test expr h = refl
 
 -- the tokens of new arrays
-array_tokens : (word : Tok) (base : TypeBaseTree) (sizes : SizesTree) (ends : Dims) (rest : List Tok) → expr_yield (NewArray word base sizes ends) ++ rest ≡ word ∷ (base_yield base ++ (sizes_yield sizes ++ (dims_yield ends ++ rest)))
+pub array_tokens : (word : Tok) (base : TypeBaseTree) (sizes : SizesTree) (ends : Dims) (rest : List Tok) → expr_yield (NewArray word base sizes ends) ++ rest ≡ word ∷ (base_yield base ++ (sizes_yield sizes ++ (dims_yield ends ++ rest)))
 array_tokens word base sizes ends rest = ap (λ others. word ∷ others) (append_assoc (base_yield base) (sizes_yield sizes ++ dims_yield ends) rest ∙ ap (λ others. base_yield base ++ others) (append_assoc (sizes_yield sizes) (dims_yield ends) rest))
 
-filled_tokens : (word : Tok) (base : TypeBaseTree) (ends : Dims) (items : BracesTree) (rest : List Tok) → expr_yield (NewInit word base ends items) ++ rest ≡ word ∷ (base_yield base ++ (dims_yield ends ++ (braces_yield items ++ rest)))
+pub filled_tokens : (word : Tok) (base : TypeBaseTree) (ends : Dims) (items : BracesTree) (rest : List Tok) → expr_yield (NewInit word base ends items) ++ rest ≡ word ∷ (base_yield base ++ (dims_yield ends ++ (braces_yield items ++ rest)))
 filled_tokens word base ends items rest = ap (λ others. word ∷ others) (append_assoc (base_yield base) (dims_yield ends ++ braces_yield items) rest ∙ ap (λ others. base_yield base ++ others) (append_assoc (dims_yield ends) (braces_yield items) rest))
 
 -- no part follows

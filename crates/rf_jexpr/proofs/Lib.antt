@@ -1,5 +1,6 @@
 mod AnswerLemmas
 mod CalledLemmas
+mod CreationLemmas
 pub mod CursorLemmas
 mod FormLemmas
 pub mod GrowthLemmas

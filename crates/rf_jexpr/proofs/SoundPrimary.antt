@@ -178,7 +178,7 @@ module _ (m : ℕ) (p : Parsers) (s : AreSound m p) where
         by_some (λ z. IsPrimaryRead whole z.0 z.1) (NewArray word base (sizes_tree (size ∷ sizes)) ends.0, ends.1) y same all
   ]
 
-  creation-sound : IsSound (Good PRIMARY_LEVEL (suc m)) expr_yield (creation p)
+  pub creation-sound : IsSound (Good PRIMARY_LEVEL (suc m)) expr_yield (creation p)
   unfolding creation
   creation-sound toks y h = elim (of_bind (token (is_key NEW) toks) _ _ h) [
     | bound word word_found found ↦ elim (of_bind (type_base word.1) _ _ found) [

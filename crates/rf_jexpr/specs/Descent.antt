@@ -11,7 +11,7 @@ use Rattle.rf_jfit.specs.Levels.{binary_level, expr_level}
 use Rattle.rf_jfit.specs.NameTrees.{TypeBaseTree, Prim, Named, TypeUseTree}
 use Rattle.rf_jexpr.specs.NameReads.{type_use}
 use Rattle.rf_jexpr.specs.PartReads.{Parsers, braces}
-use Rattle.rf_jexpr.specs.PrimaryReads.{primary}
+use Rattle.rf_jexpr.specs.PrimaryReads.{primary, creation}
 use Rattle.rf_jexpr.specs.Reads.{Reads, ◌>>=◌, or_else, when, is_op, is_key, begins, token, chain}
 
 -- `++` or `--` behind an operand (JLS 15.14)
@@ -123,3 +123,8 @@ with_room m p = record { expr = expr m p; conditional = conditional m p; binary 
 unfoldable pub parsers : ℕ → Parsers
 parsers zero = nothing
 parsers (suc m) = with_room m (parsers m)
+
+-- a creation no deeper than the room
+unfoldable pub creations : ℕ → Reads ExprTree
+creations zero toks = None
+creations (suc m) toks = creation (parsers m) toks

@@ -4,7 +4,7 @@ use Rattle.rf_jtree.specs.declared.exprs.Expr.{Expr}
 use Rattle.rf_jtree.specs.declared.tokens.Tok.{Tok}
 use Rattle.rf_jfit.specs.ExprFits.{ExprFits}
 use Rattle.rf_jfit.specs.ExprShown.{expr_shown}
-use Rattle.rf_jfit.specs.ExprTrees.{expr_yield, expr_depth}
+use Rattle.rf_jfit.specs.ExprTrees.{ExprTree, New, NewArray, NewInit, expr_yield, expr_depth}
 use Rattle.rf_jexpr.specs.declared.found.Found.{Found}
 use Rattle.rf_jexpr.specs.declared.found.Taken.{Taken}
 use Rattle.rf_jexpr.specs.declared.parse_err.ParseErr.{ParseErr}
@@ -36,6 +36,16 @@ IsLongestOf Fits yield depth shown toks start room (Err Memory) = Unit {0}
 -- expressions
 abbrev pub IsLongest : List Tok → ℕ → ℕ → Result (Expr × ℕ) ParseErr → Type 0
 IsLongest toks start room result = IsLongestOf ExprFits expr_yield expr_depth expr_shown toks start room result
+
+-- new objects and new arrays (JLS 15.9, 15.10)
+abbrev pub IsCreation : ExprTree → Type 0
+IsCreation (New word name args) = Unit {0}
+IsCreation (NewArray word base sizes dims) = Unit {0}
+IsCreation (NewInit word base dims items) = Unit {0}
+IsCreation expr = ⊥
+
+abbrev pub CreationFits : ExprTree → Type 0
+CreationFits expr = IsCreation expr × ExprFits expr
 
 -- names and the uses of types, which are not deep
 abbrev pub not_deep : {A : Type 0} → A → ℕ

@@ -23,7 +23,7 @@ pub use cursor::{Want, is_at, take, tok_at};
 pub use forms::grown;
 pub use found::{Found, Taken, attempt, deeper};
 pub use laws::{expressions_begin_with, expressions_have_one_tree};
-pub use longest::{args, boxed_expr, expr, init, name, type_use};
+pub use longest::{args, boxed_expr, expr, init, name, new_expr, type_use};
 pub use names::dims;
 pub use parse_err::ParseErr;
 pub use parts::exprs;

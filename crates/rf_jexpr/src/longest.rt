@@ -5,13 +5,14 @@ ghost use Rattle.rf_jfit.specs.ExprTrees.{expr_yield, expr_depth, init_yield, in
 ghost use Rattle.rf_jfit.specs.NameFits.{NameFits, TypeFits};
 ghost use Rattle.rf_jfit.specs.NameShown.{name_shown, type_shown};
 ghost use Rattle.rf_jfit.specs.NameTrees.{name_yield, type_yield};
-ghost use Rattle.rf_jexpr.specs.Descent.{parsers};
+ghost use Rattle.rf_jexpr.specs.Descent.{parsers, creations};
 ghost use Rattle.rf_jexpr.specs.Gives.{Gives, GivesTree};
-ghost use Rattle.rf_jexpr.specs.Longest.{IsLongest, IsLongestOf, not_deep, of_taken, of_found};
+ghost use Rattle.rf_jexpr.specs.Longest.{IsLongest, IsLongestOf, CreationFits, not_deep, of_taken, of_found};
 ghost use Rattle.rf_jexpr.specs.Made.{boxed_shown, boxed_init_shown};
 ghost use Rattle.rf_jexpr.specs.NameReads.{name, type_use};
 ghost use Rattle.rf_jexpr.specs.PartReads.{args};
 
+use crate::creation::creation;
 use crate::found::{Found, Taken};
 use crate::{ParseErr, names, parts, top};
 use rf_jtree::{Args, Expr, Init, Name, Tok, TypeUse};
@@ -48,6 +49,22 @@ pub fn init(alloc: Global, t: &[Tok], at: usize, room: u32) -> Result<Found<Box<
     ensures longest { IsLongestOf InitFits init_yield init_depth boxed_init_shown t.now at room (of_found result) }
 {
     top::init(alloc, t, at, room)
+}
+
+/// The longest expression that begins with `new`, be it an object or an array (JLS 15.9, 15.10).
+pub fn new_expr(
+    alloc: Global,
+    t: &[Tok],
+    at: usize,
+    room: u32,
+) -> Result<Found<Box<Expr>>, ParseErr>
+    ensures gives { GivesTree boxed_shown expr_depth room t.now at result (creations room (drop at t.now)) }
+    ensures longest { IsLongestOf CreationFits expr_yield expr_depth boxed_shown t.now at room (of_found result) }
+{
+    if room == 0 {
+        return Err(ParseErr::NoTree);
+    }
+    creation(alloc, t, at, room - 1)
 }
 
 /// The arguments in parentheses, of which there is one list at most (JLS 15.12).
