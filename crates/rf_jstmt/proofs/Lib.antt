@@ -1,12 +1,15 @@
 pub mod BlockLemmas
 pub mod Declares
 pub mod Dispatch
+pub mod EndLemmas
 pub mod Exact
 pub mod ExactForms
 pub mod ExactLists
 pub mod ExactMods
 pub mod ExactParts
 pub mod ExactVars
+pub mod LocalLemmas
+pub mod ModLemmas
 pub mod Over
 pub mod SoundForms
 pub mod SoundLists
@@ -18,3 +21,7 @@ pub mod Steps
 pub mod StmtFirst
 pub mod TestLemmas
 mod FrontLemmas
+pub mod ValueLemmas
+mod BlockAnswers
+mod ListShows
+mod StmtRooms

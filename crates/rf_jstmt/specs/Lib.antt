@@ -1,5 +1,7 @@
 pub mod BlockAt
 pub mod ModReads
+pub mod StmtGives
+pub mod StmtMade
 pub mod StmtParts
 pub mod StmtReads
 pub mod StmtStops

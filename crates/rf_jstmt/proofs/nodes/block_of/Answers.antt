@@ -1,0 +1,5 @@
+use Rattle.rf_jfit.proofs.StmtShows.{stmt_shown-Block}
+use Rattle.rf_jstmt.proofs.nodes.block_of.Goals as goal
+
+pub returns : goal.returns
+returns c = rw stmt_shown-Block at c.boxed.ensures

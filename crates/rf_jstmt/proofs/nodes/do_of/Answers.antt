@@ -1,0 +1,5 @@
+use Rattle.rf_jfit.proofs.StmtShows.{stmt_shown-Do}
+use Rattle.rf_jstmt.proofs.nodes.do_of.Goals as goal
+
+pub returns : goal.returns
+returns c = rw (stmt_shown-Do, c.into_inner.ensures) at c.boxed.ensures

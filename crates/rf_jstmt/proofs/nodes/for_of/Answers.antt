@@ -1,0 +1,5 @@
+use Rattle.rf_jfit.proofs.StmtShows.{stmt_shown-For}
+use Rattle.rf_jstmt.proofs.nodes.for_of.Goals as goal
+
+pub returns : goal.returns
+returns c = rw (stmt_shown-For, c.unboxed.ensures) at c.boxed.ensures

@@ -1,0 +1,5 @@
+use Rattle.rf_jfit.proofs.StmtShows.{stmt_shown-If}
+use Rattle.rf_jstmt.proofs.nodes.if_of.Goals as goal
+
+pub returns : goal.returns
+returns c = rw (stmt_shown-If, c.into_inner.ensures) at c.boxed.ensures

@@ -1,0 +1,6 @@
+use Rattle.rf_jfit.proofs.StmtShows.{stmt_shown-Switch}
+use Rattle.rf_jstmt.proofs.ListShows.{groups-shown}
+use Rattle.rf_jstmt.proofs.nodes.switch_of.Goals as goal
+
+pub returns : goal.returns
+returns c = rw groups-shown (rw (stmt_shown-Switch, c.into_inner.ensures) at c.boxed.ensures)

@@ -1,0 +1,5 @@
+use Rattle.rf_jfit.proofs.StmtShows.{stmt_shown-Sync}
+use Rattle.rf_jstmt.proofs.nodes.sync_of.Goals as goal
+
+pub returns : goal.returns
+returns c = rw (stmt_shown-Sync, c.into_inner.ensures) at c.boxed.ensures

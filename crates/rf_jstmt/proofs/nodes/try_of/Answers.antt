@@ -1,0 +1,6 @@
+use Rattle.rf_jfit.proofs.StmtShows.{stmt_shown-Try}
+use Rattle.rf_jstmt.proofs.ListShows.{catches-shown}
+use Rattle.rf_jstmt.proofs.nodes.try_of.Goals as goal
+
+pub returns : goal.returns
+returns c = rw catches-shown (rw stmt_shown-Try at c.boxed.ensures)

@@ -1,0 +1,5 @@
+use Rattle.rf_jfit.proofs.StmtShows.{stmt_shown-While}
+use Rattle.rf_jstmt.proofs.nodes.while_of.Goals as goal
+
+pub returns : goal.returns
+returns c = rw (stmt_shown-While, c.into_inner.ensures) at c.boxed.ensures

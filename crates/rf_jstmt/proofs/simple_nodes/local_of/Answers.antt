@@ -1,0 +1,5 @@
+use Rattle.rf_jfit.proofs.StmtShows.{stmt_shown-Local}
+use Rattle.rf_jstmt.proofs.simple_nodes.local_of.Goals as goal
+
+pub returns : goal.returns
+returns c = rw stmt_shown-Local at c.boxed.ensures

@@ -1,0 +1,5 @@
+use Rattle.rf_jfit.proofs.StmtShows.{stmt_shown-Throw}
+use Rattle.rf_jstmt.proofs.simple_nodes.throw_of.Goals as goal
+
+pub returns : goal.returns
+returns c = rw (stmt_shown-Throw, c.into_inner.ensures) at c.boxed.ensures

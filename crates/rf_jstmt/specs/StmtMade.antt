@@ -1,0 +1,69 @@
+-- What the code makes of parts that were read.
+use Rattle.std.specs.Prelude.{◌≡◌, ℕ, ◌≤◌, List, drop, length, Option, Some, None, Bool}
+use Rattle.std.specs.declared.alloc.Global.{Global}
+use Rattle.std.specs.declared.boxed.Box.{Box}
+use Rattle.rf_jtree.specs.declared.exprs.Expr.{Expr}
+use Rattle.rf_jtree.specs.declared.exprs.Init.{Init}
+use Rattle.rf_jtree.specs.declared.stmts.Stmt.{Stmt}
+use Rattle.rf_jtree.specs.declared.stmts.Var.{Var}
+use Rattle.rf_jtree.specs.declared.tokens.Tok.{Tok}
+use Rattle.rf_jfit.specs.ExprTrees.{ExprTree, InitTree, expr_depth, init_depth}
+use Rattle.rf_jfit.specs.StmtShown.{stmt_shown, var_shown}
+use Rattle.rf_jfit.specs.StmtTrees.{StmtTree, VarTree, var_depth}
+use Rattle.rf_jexpr.specs.Made.{boxed_shown, boxed_init_shown}
+use Rattle.rf_jexpr.specs.Reads.{Reads, ◌>>=◌, token}
+use Rattle.rf_jstmt.specs.declared.heads.Head.{Head as HeadParts}
+use Rattle.rf_jstmt.specs.StmtParts.{Head}
+
+-- what stands behind a pointer, shown
+abbrev pub boxed_stmt_shown : Box Stmt Global → StmtTree
+boxed_stmt_shown boxed = stmt_shown boxed.value
+
+-- a keyword with an expression in parentheses behind it
+abbrev pub head_shown : HeadParts → Head
+head_shown head = record { word = head.word; left = head.left; value = boxed_shown head.value; right = head.right }
+
+abbrev pub head_depth : Head → ℕ
+head_depth head = expr_depth head.value
+
+-- a variable behind a pointer
+abbrev pub boxed_var_shown : Box Var Global → VarTree
+boxed_var_shown boxed = var_shown boxed.value
+
+-- a token and a part behind it
+abbrev pub boxed_beginning_shown : Tok × Box Init Global → Tok × InitTree
+boxed_beginning_shown part = (part.0, boxed_init_shown part.1)
+
+abbrev pub beginning_depth : Tok × InitTree → ℕ
+beginning_depth part = init_depth part.1
+
+abbrev pub boxed_message_shown : Tok × Box Expr Global → Tok × ExprTree
+boxed_message_shown part = (part.0, boxed_shown part.1)
+
+abbrev pub message_depth : Tok × ExprTree → ℕ
+message_depth part = expr_depth part.1
+
+-- a comma and a variable
+abbrev pub next_var_shown : Tok × Var → Tok × VarTree
+next_var_shown item = (item.0, var_shown item.1)
+
+abbrev pub next_var_depth : Tok × VarTree → ℕ
+next_var_depth item = var_depth item.1
+
+-- two tokens
+abbrev pub pair_of : (Tok → Bool) → (Tok → Bool) → Reads (Tok × Tok)
+pair_of first second toks = do
+  one ← token first toks
+  other ← token second one.1
+  Some ((one.0, other.0), other.1)
+
+-- where something ends that a reader reads of the tokens from a place on, though none of it is kept
+pub record IsEndOf {A : Type 0} (toks : List Tok) (at : ℕ) (read : Option (A × List Tok)) (end : ℕ) : Type 0 where
+  pub item : A
+  pub is : read ≡ Some (item, drop end toks)
+  pub forth : at ≤ end
+  pub within : end ≤ length toks
+
+abbrev pub IsEnd : {A : Type 0} → List Tok → ℕ → Option (A × List Tok) → Option ℕ → Type 0
+IsEnd toks at read (Some end) = IsEndOf toks at read end
+IsEnd toks at read None = read ≡ None

@@ -1,0 +1,139 @@
+ghost use Rattle.std.specs.Prelude.{◌≡◌, ◌≤◌, drop, length, option_map};
+ghost use Rattle.rf_jfit.specs.ExprShown.{exprs_shown};
+ghost use Rattle.rf_jfit.specs.ExprTrees.{expr_depth, exprs_depth};
+ghost use Rattle.rf_jfit.specs.NameTrees.{option_depth};
+ghost use Rattle.rf_jexpr.specs.Descent.{parsers};
+ghost use Rattle.rf_jexpr.specs.Gives.{GivesTree};
+ghost use Rattle.rf_jexpr.specs.Made.{boxed_shown};
+ghost use Rattle.rf_jexpr.specs.Reads.{begins};
+ghost use Rattle.rf_jexpr.specs.Stops.{begins_expr};
+ghost use Rattle.rf_jstmt.specs.StmtMade.{head_shown, head_depth};
+ghost use Rattle.rf_jstmt.specs.StmtParts.{head, optional_expr, statement_exprs};
+ghost use Rattle.rf_jstmt.specs.StmtTests.{is_statement_expr, are_statement_exprs};
+
+use rf_jexpr::{Found, ParseErr, Want, boxed_expr, exprs, take, tok_at};
+use rf_jfit::operators::{LEFT_PAREN, PREFIXES, RIGHT_PAREN};
+use rf_jfit::{are_statement_exprs, begins_operand, is_op_of, is_statement_expr};
+use rf_jtree::{Expr, Kw, Many, Tok};
+use std::alloc::Global;
+
+/// A keyword with an expression in parentheses behind it.
+#[derive(Debug, Drop)]
+pub(crate) struct Head {
+    pub word: Tok,
+    pub left: Tok,
+    pub value: Box<Expr>,
+    pub right: Tok,
+}
+
+/// `key (value)`, as `if`, `while`, `switch` and `synchronized` have it.
+#[tactic(auto, unfolding(crate::specs::StmtParts::head, rf_jexpr::specs::Reads::and_then))]
+pub(crate) fn head_at(
+    alloc: Global,
+    t: &[Tok],
+    at: usize,
+    room: u32,
+    key: Kw,
+) -> Result<Found<Head>, ParseErr>
+    ensures { GivesTree head_shown head_depth room t.now at result (head (parsers room) key (drop at t.now)) }
+{
+    let word = take(alloc, t, at, Want::Key(key))?;
+    let left = take(alloc, t, word.end, Want::Op(LEFT_PAREN))?;
+    let value = boxed_expr(alloc, t, left.end, room)?;
+    let right = take(alloc, t, value.end, Want::Op(RIGHT_PAREN))?;
+    Ok(Found {
+        tree: Head {
+            word: word.item,
+            left: left.item,
+            value: value.tree,
+            right: right.item,
+        },
+        end: right.end,
+        depth: value.depth,
+    })
+}
+
+#[tactic(auto, unfolding(rf_jexpr::specs::Stops::begins_expr))]
+fn begins_expr(tok: &Tok) -> bool
+    ensures { result ≡ begins_expr tok.now }
+{
+    begins_operand(tok) || is_op_of(tok, &PREFIXES)
+}
+
+/// Whether the token at this place is there and an expression may begin with it (JLS 15).
+#[tactic(auto, using(rf_jexpr::proofs::CursorLemmas::places))]
+pub(crate) fn begins_expr_at(t: &[Tok], at: usize) -> bool
+    ensures { result ≡ begins begins_expr (drop at t.now) }
+{
+    match tok_at(t, at) {
+        Some(tok) => begins_expr(tok),
+        None => false,
+    }
+}
+
+/// An expression where one begins.
+#[tactic(auto, unfolding(crate::specs::StmtParts::optional_expr, rf_jexpr::specs::Reads::and_then))]
+pub(crate) fn optional_expr(
+    alloc: Global,
+    t: &[Tok],
+    at: usize,
+    room: u32,
+) -> Result<Found<Option<Box<Expr>>>, ParseErr>
+    requires { at ≤ length t.now }
+    ensures { GivesTree (option_map boxed_shown) (option_depth expr_depth) room t.now at result (optional_expr (parsers room) (drop at t.now)) }
+{
+    if !begins_expr_at(t, at) {
+        return Ok(Found {
+            tree: None,
+            end: at,
+            depth: 0,
+        });
+    }
+    let value = boxed_expr(alloc, t, at, room)?;
+    Ok(Found {
+        tree: Some(value.tree),
+        end: value.end,
+        depth: value.depth,
+    })
+}
+
+/// Whether an expression may stand as a statement (JLS 14.8).
+pub(crate) fn is_statement(expr: &Box<Expr>) -> bool
+    ensures { result ≡ is_statement_expr (boxed_shown expr.now) }
+{
+    is_statement_expr(&**expr)
+}
+
+/// Whether there are expressions and each may stand as a statement (JLS 14.14.1).
+fn are_statements(list: &Option<Many<Expr>>) -> bool
+    ensures { result ≡ are_statement_exprs (exprs_shown list.now) }
+{
+    are_statement_exprs(list)
+}
+
+/// Expressions that stand as statements, where one begins (JLS 14.14.1).
+pub(crate) fn statement_exprs(
+    alloc: Global,
+    t: &[Tok],
+    at: usize,
+    room: u32,
+) -> Result<Found<Option<Many<Expr>>>, ParseErr>
+    requires { at ≤ length t.now }
+    ensures { GivesTree exprs_shown exprs_depth room t.now at result (statement_exprs (parsers room) (drop at t.now)) }
+{
+    if !begins_expr_at(t, at) {
+        return Ok(Found {
+            tree: None,
+            end: at,
+            depth: 0,
+        });
+    }
+    let list = exprs(alloc, t, at, room)?;
+    if list.tree.is_none() {
+        return Err(ParseErr::NoTree);
+    }
+    if !are_statements(&list.tree) {
+        return Err(ParseErr::NoTree);
+    }
+    Ok(list)
+}

@@ -1,0 +1,243 @@
+ghost use Rattle.std.specs.Prelude.{◌≤◌, ◌+◌, drop, length, option_map, IfOk};
+ghost use Rattle.rf_jfit.specs.NameTrees.{option_depth};
+ghost use Rattle.rf_jfit.specs.StmtTrees.{stmt_depth};
+ghost use Rattle.rf_jfit.specs.declared.operators.TheConstants.{COLON};
+ghost use Rattle.rf_jexpr.specs.Descent.{parsers};
+ghost use Rattle.rf_jexpr.specs.Gives.{Gives, GivesTree, IsFound, IsTaken};
+ghost use Rattle.rf_jexpr.specs.Reads.{is_op, is_ident, token, optional, behind};
+ghost use Rattle.rf_jstmt.specs.StmtMade.{boxed_stmt_shown, boxed_message_shown, message_depth};
+ghost use Rattle.rf_jstmt.specs.StmtReads.{empty, value, jumps, jump, return_stmt, throw_stmt, assert_stmt, local_stmt};
+
+use crate::heads::{is_statement, optional_expr};
+use crate::locals::local;
+use crate::simple_nodes::{assert_of, empty_of, jump_of, local_of, return_of, throw_of, value_of};
+use rf_jexpr::{Found, ParseErr, Taken, Want, attempt, boxed_expr, deeper, is_at, take};
+use rf_jfit::operators::{COLON, SEMICOLON};
+use rf_jfit::words::{ASSERT, BREAK, CONTINUE, RETURN, THROW};
+use rf_jtree::{Expr, Stmt, Tok};
+use rf_text::Memory;
+use std::alloc::Global;
+
+// Statements that hold no other statement. In each, `room` is what is left for the parts.
+
+/// `;` (JLS 14.6).
+#[tactic(auto, unfolding(crate::specs::StmtReads::empty, rf_jexpr::specs::Reads::and_then))]
+pub(crate) fn empty(
+    alloc: Global,
+    t: &[Tok],
+    at: usize,
+    room: u32,
+) -> Result<Found<Box<Stmt>>, ParseErr>
+    ensures { GivesTree boxed_stmt_shown stmt_depth (room + 1) t.now at result (empty (drop at t.now)) }
+{
+    let semi = take(alloc, t, at, Want::Op(SEMICOLON))?;
+    let tree = empty_of(alloc, semi.item)?;
+    Ok(Found {
+        tree,
+        end: semi.end,
+        depth: 1,
+    })
+}
+
+/// An expression and `;` (JLS 14.8).
+#[tactic(auto, unfolding(crate::specs::StmtReads::value, rf_jexpr::specs::Reads::and_then, rf_jexpr::specs::Reads::when))]
+pub(crate) fn value(
+    alloc: Global,
+    t: &[Tok],
+    at: usize,
+    room: u32,
+) -> Result<Found<Box<Stmt>>, ParseErr>
+    ensures { GivesTree boxed_stmt_shown stmt_depth (room + 1) t.now at result (value (parsers room) (drop at t.now)) }
+{
+    let found = boxed_expr(alloc, t, at, room)?;
+    if !is_statement(&found.tree) {
+        return Err(ParseErr::NoTree);
+    }
+    let semi = take(alloc, t, found.end, Want::Op(SEMICOLON))?;
+    let tree = value_of(alloc, found.tree, semi.item)?;
+    Ok(Found {
+        tree,
+        end: semi.end,
+        depth: found.depth + 1,
+    })
+}
+
+/// `break` or `continue`.
+fn jump_word(alloc: Global, t: &[Tok], at: usize) -> Result<Taken<Tok>, ParseErr>
+    ensures { Gives (λ tok. tok) t.now at result (token jumps (drop at t.now)) }
+{
+    if is_at(t, at, Want::Key(BREAK)) {
+        return take(alloc, t, at, Want::Key(BREAK));
+    }
+    take(alloc, t, at, Want::Key(CONTINUE))
+}
+
+/// A label, if one stands there.
+#[tactic(auto, unfolding(rf_jexpr::specs::Reads::optional, rf_jexpr::specs::Reads::and_then, rf_jexpr::specs::Reads::or_else))]
+fn some_label(alloc: Global, t: &[Tok], at: usize) -> Result<Taken<Option<Tok>>, Memory>
+    requires { at ≤ length t.now }
+    ensures { IfOk result (IsTaken (λ label. label) t.now at (optional (token is_ident) (drop at t.now))) }
+{
+    match attempt(take(alloc, t, at, Want::Ident))? {
+        Some(label) => Ok(Taken {
+            item: Some(label.item),
+            end: label.end,
+        }),
+        None => Ok(Taken {
+            item: None,
+            end: at,
+        }),
+    }
+}
+
+/// `break` or `continue`, with a label or without (JLS 14.15, 14.16).
+#[tactic(auto, unfolding(crate::specs::StmtReads::jump, rf_jexpr::specs::Reads::and_then))]
+pub(crate) fn jump(
+    alloc: Global,
+    t: &[Tok],
+    at: usize,
+    room: u32,
+) -> Result<Found<Box<Stmt>>, ParseErr>
+    ensures { GivesTree boxed_stmt_shown stmt_depth (room + 1) t.now at result (jump (drop at t.now)) }
+{
+    let word = jump_word(alloc, t, at)?;
+    let label = some_label(alloc, t, word.end)?;
+    let semi = take(alloc, t, label.end, Want::Op(SEMICOLON))?;
+    let tree = jump_of(alloc, word.item, label.item, semi.item)?;
+    Ok(Found {
+        tree,
+        end: semi.end,
+        depth: 1,
+    })
+}
+
+/// `return` (JLS 14.17).
+#[tactic(auto, unfolding(crate::specs::StmtReads::return_stmt, rf_jexpr::specs::Reads::and_then))]
+pub(crate) fn return_stmt(
+    alloc: Global,
+    t: &[Tok],
+    at: usize,
+    room: u32,
+) -> Result<Found<Box<Stmt>>, ParseErr>
+    ensures { GivesTree boxed_stmt_shown stmt_depth (room + 1) t.now at result (return_stmt (parsers room) (drop at t.now)) }
+{
+    let word = take(alloc, t, at, Want::Key(RETURN))?;
+    let value = optional_expr(alloc, t, word.end, room)?;
+    let semi = take(alloc, t, value.end, Want::Op(SEMICOLON))?;
+    let tree = return_of(alloc, word.item, value.tree, semi.item)?;
+    Ok(Found {
+        tree,
+        end: semi.end,
+        depth: value.depth + 1,
+    })
+}
+
+/// `throw` (JLS 14.18).
+#[tactic(auto, unfolding(crate::specs::StmtReads::throw_stmt, rf_jexpr::specs::Reads::and_then))]
+pub(crate) fn throw_stmt(
+    alloc: Global,
+    t: &[Tok],
+    at: usize,
+    room: u32,
+) -> Result<Found<Box<Stmt>>, ParseErr>
+    ensures { GivesTree boxed_stmt_shown stmt_depth (room + 1) t.now at result (throw_stmt (parsers room) (drop at t.now)) }
+{
+    let word = take(alloc, t, at, Want::Key(THROW))?;
+    let value = boxed_expr(alloc, t, word.end, room)?;
+    let semi = take(alloc, t, value.end, Want::Op(SEMICOLON))?;
+    let tree = throw_of(alloc, word.item, value.tree, semi.item)?;
+    Ok(Found {
+        tree,
+        end: semi.end,
+        depth: value.depth + 1,
+    })
+}
+
+/// `:` and an expression.
+#[tactic(auto, unfolding(rf_jexpr::specs::Reads::behind, rf_jexpr::specs::Reads::and_then))]
+fn message(
+    alloc: Global,
+    t: &[Tok],
+    at: usize,
+    room: u32,
+) -> Result<Found<(Tok, Box<Expr>)>, ParseErr>
+    ensures { GivesTree boxed_message_shown message_depth room t.now at result (behind (is_op COLON) (parsers room).expr (drop at t.now)) }
+{
+    let colon = take(alloc, t, at, Want::Op(COLON))?;
+    let value = boxed_expr(alloc, t, colon.end, room)?;
+    Ok(Found {
+        tree: (colon.item, value.tree),
+        end: value.end,
+        depth: value.depth,
+    })
+}
+
+/// The same, if it stands there.
+#[tactic(auto, unfolding(rf_jexpr::specs::Reads::optional, rf_jexpr::specs::Reads::and_then, rf_jexpr::specs::Reads::or_else))]
+fn some_message(
+    alloc: Global,
+    t: &[Tok],
+    at: usize,
+    room: u32,
+) -> Result<Found<Option<(Tok, Box<Expr>)>>, Memory>
+    requires { at ≤ length t.now }
+    ensures { IfOk result (IsFound (option_map boxed_message_shown) (option_depth message_depth) room t.now at (optional (behind (is_op COLON) (parsers room).expr) (drop at t.now))) }
+{
+    match attempt(message(alloc, t, at, room))? {
+        Some(found) => Ok(Found {
+            tree: Some(found.tree),
+            end: found.end,
+            depth: found.depth,
+        }),
+        None => Ok(Found {
+            tree: None,
+            end: at,
+            depth: 0,
+        }),
+    }
+}
+
+/// `assert`, with a second expression or without (JLS 14.10).
+#[tactic(auto, unfolding(crate::specs::StmtReads::assert_stmt, rf_jexpr::specs::Reads::and_then))]
+pub(crate) fn assert_stmt(
+    alloc: Global,
+    t: &[Tok],
+    at: usize,
+    room: u32,
+) -> Result<Found<Box<Stmt>>, ParseErr>
+    ensures { GivesTree boxed_stmt_shown stmt_depth (room + 1) t.now at result (assert_stmt (parsers room) (drop at t.now)) }
+{
+    let word = take(alloc, t, at, Want::Key(ASSERT))?;
+    let test = boxed_expr(alloc, t, word.end, room)?;
+    let message = some_message(alloc, t, test.end, room)?;
+    let semi = take(alloc, t, message.end, Want::Op(SEMICOLON))?;
+    let tree = assert_of(alloc, word.item, test.tree, message.tree, semi.item)?;
+    Ok(Found {
+        tree,
+        end: semi.end,
+        depth: deeper(test.depth, message.depth) + 1,
+    })
+}
+
+/// A local declaration and `;` (JLS 14.4).
+#[tactic(auto, unfolding(crate::specs::StmtReads::local_stmt, rf_jexpr::specs::Reads::and_then))]
+pub(crate) fn local_stmt(
+    alloc: Global,
+    t: &[Tok],
+    at: usize,
+    room: u32,
+) -> Result<Found<Box<Stmt>>, ParseErr>
+    ensures { GivesTree boxed_stmt_shown stmt_depth (room + 1) t.now at result (local_stmt (parsers room) (drop at t.now)) }
+{
+    if t.len() < at {
+        return Err(ParseErr::NoTree);
+    }
+    let found = local(alloc, t, at, room)?;
+    let semi = take(alloc, t, found.end, Want::Op(SEMICOLON))?;
+    let tree = local_of(alloc, found.tree, semi.item)?;
+    Ok(Found {
+        tree,
+        end: semi.end,
+        depth: found.depth + 1,
+    })
+}
