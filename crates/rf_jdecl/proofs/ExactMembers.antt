@@ -210,7 +210,7 @@ module _ (m : ℕ) (e : AreExactStmts m (stmt_parsers m)) where
   some_ret : (front : List Tok) (ret : RetTree) (tok : Tok) (behind : List Tok) → 1 ≤ length (front ++ (ret_yield ret ++ tok ∷ behind))
   some_ret front ret tok behind = let some = some_of (ret_yield ret) behind tok in omega (arith, length-append front (ret_yield ret ++ tok ∷ behind))
 
-  member_some : (found : MemberTree) → GoodMember m found → 1 ≤ length (member_yield found)
+  pub member_some : (found : MemberTree) → GoodMember m found → 1 ≤ length (member_yield found)
   member_some (MemberTree.Semi semi) good = omega arith
   member_some (Init found body) good = some_block (option_yield tok_yield found) body
   member_some (Ctor mods id list throws left call body right) good = some_of (mods_yield mods) _ id

@@ -9,4 +9,7 @@ pub mod NoCalls
 pub mod SoundHeads
 pub mod SoundMembers
 pub mod SoundUnits
+mod AnswerLemmas
+mod CodeLemmas
 mod FrontLemmas
+mod MemberLemmas

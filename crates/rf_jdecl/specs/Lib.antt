@@ -1,3 +1,4 @@
+pub mod DeclMade
 pub mod DeclTests
 pub mod Files
 pub mod HeadReads
