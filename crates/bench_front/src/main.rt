@@ -1,8 +1,13 @@
-//! The front end alone, for measurements and for cases: `bench_front tokens FILE` prints `tokens N`, with the number of
-//! tokens, or `lex OFFSET`, with the byte at which no token begins.
+//! The front end alone, for measurements and for cases. `bench_front tokens FILE` prints `tokens N`, with the number of
+//! tokens; `bench_front expr FILE` prints `expr N`, with the number of the token behind the expression that the file begins
+//! with, or `syntax` where it begins with none. Both print `lex OFFSET`, with the byte at which no token begins, where there
+//! is one.
 #![tactic(auto)]
 
+use rf_jdecl::unit;
+use rf_jexpr::{ParseErr, boxed_expr};
 use rf_jlex::{LexErr, lex};
+use rf_jtree::Tok;
 use rf_text::Bytes;
 use rf_world::{RealWorld, World, WorldErr};
 use std::alloc::Global;
@@ -11,13 +16,33 @@ use std::io::Print;
 use std::process::ExitCode;
 use std::rt::{Env, Files};
 
+/// How deep the trees are that are read.
+const ROOM: u32 = 200;
+
+/// What is asked of a file.
+#[derive(Clone, Copy, Debug)]
+enum Mode {
+    /// How many tokens it has.
+    Tokens,
+    /// Where the expression ends that it begins with.
+    Expr,
+    /// Whether it has a tree.
+    Tree,
+}
+
 /// What is said of a file.
 #[derive(Clone, Copy, Debug)]
 enum Verdict {
     /// It has this many tokens.
     Tokens(usize),
+    /// The expression that it begins with ends before this token.
+    Expr(usize),
+    /// It has a tree, with this many tokens.
+    Tree(usize),
     /// No token begins at this byte.
     Fault(usize),
+    /// It doesn't begin with what is asked for.
+    Syntax,
 }
 
 /// Why nothing is said. The numbers are those that `refacola` ends with for the same causes.
@@ -49,17 +74,29 @@ fn line_of(failure: Failure) -> &'static str {
 
 /// Says what the words ask for.
 fn run<R: Env + Files + Print + AllocGlobal + Clone + Drop>(rt: &R) -> Result<(), Failure> {
-    let file = file_named(rt.alloc(), rt)?;
+    let (mode, file) = asked(rt.alloc(), rt)?;
     let mut world = RealWorld::new(rt);
-    match verdict_on(rt.alloc(), &mut world, file.as_slice())? {
+    match verdict_on(rt.alloc(), &mut world, mode, file.as_slice())? {
         Verdict::Tokens(count) => println!(rt; "tokens {count}"),
+        Verdict::Expr(end) => println!(rt; "expr {end}"),
+        Verdict::Tree(count) => println!(rt; "tree {count}"),
         Verdict::Fault(offset) => println!(rt; "lex {offset}"),
+        Verdict::Syntax => println!(rt; "syntax"),
     }
     .map_err(|_| Failure::WriteFault)
 }
 
-/// The FILE of `tokens FILE`.
-fn file_named<R: Env + AllocGlobal>(alloc: Global, rt: &R) -> Result<Bytes, Failure> {
+fn mode_named(word: &str) -> Option<Mode> {
+    match word {
+        "tokens" => Some(Mode::Tokens),
+        "expr" => Some(Mode::Expr),
+        "tree" => Some(Mode::Tree),
+        _ => None,
+    }
+}
+
+/// The MODE and the FILE of the words.
+fn asked<R: Env + AllocGlobal>(alloc: Global, rt: &R) -> Result<(Mode, Bytes), Failure> {
     let Ok(mut words) = env::args(rt) else {
         return Err(Failure::BadWords);
     };
@@ -70,20 +107,54 @@ fn file_named<R: Env + AllocGlobal>(alloc: Global, rt: &R) -> Result<Bytes, Fail
     let Some(file) = words.next() else {
         return Err(Failure::BadWords);
     };
-    if command.as_str() != "tokens" || words.next().is_some() {
+    let Some(mode) = mode_named(command.as_str()) else {
+        return Err(Failure::BadWords);
+    };
+    if words.next().is_some() {
         return Err(Failure::BadWords);
     }
     match Bytes::from_slice(alloc, file.as_bytes()) {
-        Ok(file) => Ok(file),
+        Ok(file) => Ok((mode, file)),
         Err(_) => Err(Failure::Memory),
     }
 }
 
-/// Reads and lexes a file.
-fn verdict_on<W: World>(alloc: Global, world: &mut W, path: &[u8]) -> Result<Verdict, Failure> {
+/// Reads the expression that the tokens begin with.
+fn expr_verdict(alloc: Global, toks: &[Tok]) -> Result<Verdict, Failure> {
+    match boxed_expr(alloc, toks, 0, ROOM) {
+        Ok(found) => Ok(Verdict::Expr(found.end)),
+        Err(ParseErr::NoTree) => Ok(Verdict::Syntax),
+        Err(ParseErr::Memory) => Err(Failure::Memory),
+    }
+}
+
+/// Reads the file that the tokens are.
+fn tree_verdict(alloc: Global, toks: &[Tok]) -> Result<Verdict, Failure> {
+    match unit(alloc, toks) {
+        Ok(_) => Ok(Verdict::Tree(toks.len())),
+        Err(ParseErr::NoTree) => Ok(Verdict::Syntax),
+        Err(ParseErr::Memory) => Err(Failure::Memory),
+    }
+}
+
+fn toks_verdict(alloc: Global, mode: Mode, toks: &[Tok]) -> Result<Verdict, Failure> {
+    match mode {
+        Mode::Tokens => Ok(Verdict::Tokens(toks.len())),
+        Mode::Expr => expr_verdict(alloc, toks),
+        Mode::Tree => tree_verdict(alloc, toks),
+    }
+}
+
+/// Reads a file, lexes it and goes on with its tokens.
+fn verdict_on<W: World>(
+    alloc: Global,
+    world: &mut W,
+    mode: Mode,
+    path: &[u8],
+) -> Result<Verdict, Failure> {
     match world.read(alloc, b"", path) {
         Ok(file) => match lex(alloc, file.as_slice()) {
-            Ok(toks) => Ok(Verdict::Tokens(toks.list.len())),
+            Ok(toks) => toks_verdict(alloc, mode, toks.list.as_slice()),
             Err(LexErr::Fault { offset }) => Ok(Verdict::Fault(offset)),
             Err(LexErr::Memory) => Err(Failure::Memory),
         },

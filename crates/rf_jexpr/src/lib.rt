@@ -14,8 +14,6 @@ mod parse_err;
 mod parts;
 mod primary;
 mod shapes;
-#[cfg(test)]
-mod tests;
 mod top;
 mod unary;
 

@@ -1,40 +1,9 @@
-//! Expressions as they are read: where each ends, and how deep it is, in the room that it is given.
+//! Where expressions end, and how deep they are, in the room that they are given.
 
-use crate::ParseErr;
-use crate::top::expr;
-use rf_jtree::{Tok, TokKind, keyword, operator};
-use rf_text::Bytes;
-use std::alloc::Global;
+use crate::tokens;
+use rf_jexpr::{ParseErr, boxed_expr};
 use std::process::Abort;
 use std::test::Fail;
-
-/// The token that these bytes spell: a word, an operator or a number.
-fn token(alloc: Global, bytes: &[u8]) -> Result<Tok, Fail> {
-    let kind = match operator(bytes) {
-        Some(op) => TokKind::Op(op),
-        None => match keyword(bytes) {
-            Some(word) => TokKind::Key(word),
-            None => match bytes {
-                [b'0'..=b'9', ..] => TokKind::Int,
-                _ => TokKind::Ident,
-            },
-        },
-    };
-    Ok(Tok {
-        kind,
-        lead: Bytes::new(alloc),
-        text: Bytes::from_slice(alloc, bytes)?,
-    })
-}
-
-/// The tokens of a text, which stand apart by spaces.
-fn tokens(alloc: Global, text: &str) -> Result<Vec<Tok>, Fail> {
-    let mut toks = Vec::new(alloc);
-    for word in text.split_whitespace() {
-        toks.push(token(alloc, word.as_bytes())?)?;
-    }
-    Ok(toks)
-}
 
 #[test]
 fn expressions_end_where_they_do(rt: HostRuntime) -> Result<(), Fail> {
@@ -67,7 +36,7 @@ fn expressions_end_where_they_do(rt: HostRuntime) -> Result<(), Fail> {
     ];
     for (text, room, end, depth) in cases {
         let toks = tokens(alloc, text)?;
-        match expr(alloc, toks.as_slice(), 0, room) {
+        match boxed_expr(alloc, toks.as_slice(), 0, room) {
             Ok(found) => {
                 assert_eq!(rt; found.end, end);
                 assert_eq!(rt; found.depth, depth);
@@ -91,7 +60,7 @@ fn what_is_no_expression_is_refused(rt: HostRuntime) -> Result<(), Fail> {
     ];
     for (text, room) in cases {
         let toks = tokens(alloc, text)?;
-        match expr(alloc, toks.as_slice(), 0, room) {
+        match boxed_expr(alloc, toks.as_slice(), 0, room) {
             Ok(_) => assert!(rt; false),
             Err(error) => assert_eq!(rt; error, ParseErr::NoTree),
         }

@@ -1,0 +1,282 @@
+//! Statements as texts: `«` and `»` stand around each statement, each group of a `switch` and each catch clause. An expression
+//! that is no part of another one has none of its own there.
+
+use crate::exprs::tell_bare;
+use crate::parts::{
+    tell_each, tell_first, tell_head, tell_local, tell_message, tell_mods, tell_some, tell_tok,
+};
+use crate::tree_text::TreeText;
+use rf_jtree::{Block, Catch, Group, Stmt, Tok};
+use rf_text::{Bytes, List, Memory};
+use std::alloc::Global;
+
+/// A statement as a text.
+pub fn stmt_told(alloc: Global, stmt: &Stmt) -> Result<Bytes, Memory> {
+    let mut text = TreeText::new(alloc);
+    tell_stmt(&mut text, stmt)?;
+    Ok(text.into_bytes())
+}
+
+#[cycle(tell_stmt)]
+fn tell_stmt(text: &mut TreeText, stmt: &Stmt) -> Result<(), Memory> {
+    text.open()?;
+    tell_form(text, stmt)?;
+    text.close()
+}
+
+/// A statement without `«` and `»` of its own.
+#[cycle(tell_stmt)]
+fn tell_form(text: &mut TreeText, stmt: &Stmt) -> Result<(), Memory> {
+    match stmt {
+        Stmt::Block(block) => tell_braced(text, block),
+        Stmt::Label(id, colon, body) => {
+            text.tok(id)?;
+            text.tok(colon)?;
+            tell_stmt(text, body)
+        }
+        Stmt::If {
+            word,
+            left,
+            test,
+            right,
+            then,
+            other,
+        } => {
+            tell_head(text, word, left, test, right)?;
+            tell_stmt(text, then)?;
+            tell_other(text, other)
+        }
+        Stmt::Switch {
+            word,
+            left,
+            on,
+            right,
+            brace,
+            groups,
+            end,
+        } => {
+            tell_head(text, word, left, on, right)?;
+            text.tok(brace)?;
+            tell_groups(text, groups)?;
+            text.tok(end)
+        }
+        Stmt::Sync {
+            word,
+            left,
+            on,
+            right,
+            body,
+        } => {
+            tell_head(text, word, left, on, right)?;
+            tell_block(text, body)
+        }
+        Stmt::Try {
+            word,
+            body,
+            catches,
+            last,
+        } => {
+            text.tok(word)?;
+            tell_block(text, body)?;
+            tell_catches(text, catches)?;
+            tell_last(text, last)
+        }
+        _ => tell_loop(text, stmt),
+    }
+}
+
+#[cycle(tell_stmt)]
+fn tell_loop(text: &mut TreeText, stmt: &Stmt) -> Result<(), Memory> {
+    match stmt {
+        Stmt::While {
+            word,
+            left,
+            test,
+            right,
+            body,
+        } => {
+            tell_head(text, word, left, test, right)?;
+            tell_stmt(text, body)
+        }
+        Stmt::Do {
+            word,
+            body,
+            until,
+            left,
+            test,
+            right,
+            semi,
+        } => {
+            text.tok(word)?;
+            tell_stmt(text, body)?;
+            tell_head(text, until, left, test, right)?;
+            text.tok(semi)
+        }
+        Stmt::For {
+            word,
+            left,
+            first,
+            semi1,
+            test,
+            semi2,
+            last,
+            right,
+            body,
+        } => {
+            text.tok(word)?;
+            text.tok(left)?;
+            tell_first(text, first)?;
+            text.tok(semi1)?;
+            tell_some(text, test)?;
+            text.tok(semi2)?;
+            tell_each(text, last)?;
+            text.tok(right)?;
+            tell_stmt(text, body)
+        }
+        Stmt::Each {
+            word,
+            left,
+            mods,
+            sort,
+            id,
+            colon,
+            over,
+            right,
+            body,
+        } => {
+            text.tok(word)?;
+            text.tok(left)?;
+            tell_mods(text, mods)?;
+            text.sort(sort)?;
+            text.tok(id)?;
+            text.tok(colon)?;
+            tell_bare(text, over)?;
+            text.tok(right)?;
+            tell_stmt(text, body)
+        }
+        _ => tell_simple(text, stmt),
+    }
+}
+
+/// A statement with no statement in it.
+fn tell_simple(text: &mut TreeText, stmt: &Stmt) -> Result<(), Memory> {
+    match stmt {
+        Stmt::Empty(semi) => text.tok(semi),
+        Stmt::Local(local, semi) => {
+            tell_local(text, local)?;
+            text.tok(semi)
+        }
+        Stmt::Value(value, semi) => {
+            tell_bare(text, value)?;
+            text.tok(semi)
+        }
+        Stmt::Jump(word, label, semi) => {
+            text.tok(word)?;
+            tell_tok(text, label)?;
+            text.tok(semi)
+        }
+        Stmt::Return(word, value, semi) => {
+            text.tok(word)?;
+            tell_some(text, value)?;
+            text.tok(semi)
+        }
+        Stmt::Throw(word, value, semi) => {
+            text.tok(word)?;
+            tell_bare(text, value)?;
+            text.tok(semi)
+        }
+        Stmt::Assert(word, test, message, semi) => {
+            text.tok(word)?;
+            tell_bare(text, test)?;
+            tell_message(text, message)?;
+            text.tok(semi)
+        }
+        _ => Ok(()),
+    }
+}
+
+// ---- what statements are made of
+
+/// Statements in braces, as a statement of their own.
+#[cycle(tell_stmt)]
+pub(crate) fn tell_block(text: &mut TreeText, block: &Block) -> Result<(), Memory> {
+    text.open()?;
+    tell_braced(text, block)?;
+    text.close()
+}
+
+#[cycle(tell_stmt)]
+fn tell_braced(text: &mut TreeText, block: &Block) -> Result<(), Memory> {
+    text.tok(&block.left)?;
+    tell_stmts(text, &block.list)?;
+    text.tok(&block.right)
+}
+
+#[cycle(tell_stmt)]
+pub(crate) fn tell_stmts(text: &mut TreeText, stmts: &List<Stmt>) -> Result<(), Memory> {
+    for stmt in stmts.as_slice() {
+        tell_stmt(text, stmt)?;
+    }
+    Ok(())
+}
+
+#[cycle(tell_stmt)]
+fn tell_other(text: &mut TreeText, other: &Option<(Tok, Box<Stmt>)>) -> Result<(), Memory> {
+    match other {
+        Some((word, stmt)) => {
+            text.tok(word)?;
+            tell_stmt(text, stmt)
+        }
+        None => Ok(()),
+    }
+}
+
+#[cycle(tell_stmt)]
+fn tell_group(text: &mut TreeText, group: &Group) -> Result<(), Memory> {
+    text.open()?;
+    text.tok(&group.word)?;
+    tell_some(text, &group.value)?;
+    text.tok(&group.colon)?;
+    tell_stmts(text, &group.body)?;
+    text.close()
+}
+
+#[cycle(tell_stmt)]
+fn tell_groups(text: &mut TreeText, groups: &List<Group>) -> Result<(), Memory> {
+    for group in groups.as_slice() {
+        tell_group(text, group)?;
+    }
+    Ok(())
+}
+
+#[cycle(tell_stmt)]
+fn tell_catch(text: &mut TreeText, catch: &Catch) -> Result<(), Memory> {
+    text.open()?;
+    text.tok(&catch.word)?;
+    text.tok(&catch.left)?;
+    tell_tok(text, &catch.fixed)?;
+    text.name(&catch.name)?;
+    text.tok(&catch.id)?;
+    text.tok(&catch.right)?;
+    tell_block(text, &catch.body)?;
+    text.close()
+}
+
+#[cycle(tell_stmt)]
+fn tell_catches(text: &mut TreeText, catches: &List<Catch>) -> Result<(), Memory> {
+    for catch in catches.as_slice() {
+        tell_catch(text, catch)?;
+    }
+    Ok(())
+}
+
+#[cycle(tell_stmt)]
+fn tell_last(text: &mut TreeText, last: &Option<(Tok, Block)>) -> Result<(), Memory> {
+    match last {
+        Some((word, block)) => {
+            text.tok(word)?;
+            tell_block(text, block)
+        }
+        None => Ok(()),
+    }
+}

@@ -1,0 +1,5 @@
+//! The trees that the parsers read, in tables of texts.
+
+mod blocks;
+mod exprs;
+mod files;
