@@ -1,9 +1,10 @@
 -- A table of texts and the places of its texts.
-use Rattle.std.proofs.Common.{◌≡◌, ℕ, zero, suc, ◌+◌, List, [], ◌∷◌, Option, Some, map, position, slice_get, get_or, length, ◌<◌, option_map, Bor, sym, ap, ◌∙◌, arith}
+use Rattle.std.proofs.Common.{◌≡◌, ℕ, zero, suc, ◌+◌, List, [], ◌∷◌, Option, Some, None, Bool, true, false, map, position, slice_get, get_or, length, ◌<◌, ◌≤◌, option_map, Bor, refl, sym, ap, ◌∙◌, arith}
 use Rattle.std.specs.Str.{bytes_eq}
 use Rattle.std.proofs.lemmas.List.Quantifiers.{position-Some}
-use Rattle.std.proofs.lemmas.Option.{slice_get-get_or, slice_get-map}
+use Rattle.std.proofs.lemmas.Option.{slice_get-get_or, slice_get-map, slice_get_past}
 use Rattle.std.proofs.lemmas.Slice.Eq.{bytes_eq-Decides}
+use Rattle.rf_jtree.specs.Guesses.{is_found, stands_at}
 
 -- the place of a text in a table
 abbrev pub place_in : List (List ℕ) → List ℕ → Option ℕ
@@ -32,3 +33,46 @@ pub stands_at_place : (table : List (List ℕ)) (n : ℕ) (text : List ℕ) → 
 stands_at_place table n text is =
     let found = position-Some (λ word. bytes_eq word text) table n [] is in
     slice_get-get_or table n [] found.0 ∙ ap Some ((bytes_eq-Decides (get_or table n []) text).0 found.1)
+
+-- Where a guess gives each text of a table its place, a text stands in the table if it stands at the place that is guessed,
+-- and else nowhere.
+abbrev pub if_there : Bool → ℕ → Option ℕ
+if_there true n = Some n
+if_there false n = None
+
+there : (guess : List ℕ → ℕ) (table : List (List ℕ)) (text : List ℕ) (found : Option (List ℕ)) → map (place_in table) table ≡ numbered 0 table → slice_get table (guess text) ≡ found → is_found found text ≡ true → place_in table text ≡ Some (guess text)
+there guess table text None places at stands = cc
+there guess table text (Some word) places at stands =
+    let same : word ≡ text = (bytes_eq-Decides word text).0 stands in
+    at_place (place_in table) table 0 (guess text) text places (at ∙ ap Some same) ∙ ap Some (omega arith)
+
+place_of : Option ℕ → ℕ
+place_of None = 0
+place_of (Some n) = n
+
+not_there : (guess : List ℕ → ℕ) (table : List (List ℕ)) (text : List ℕ) → map (λ word. Some (guess word)) table ≡ numbered 0 table → stands_at table (guess text) text ≡ false → (found : Option ℕ) → place_in table text ≡ found → found ≡ None
+unfolding stands_at place_of
+not_there guess table text guesses absent None is = refl
+not_there guess table text guesses absent (Some n) is =
+    let stands : slice_get table n ≡ Some text = stands_at_place table n text is in
+    let guessed : Some (guess text) ≡ Some (0 + n) = at_place (λ word. Some (guess word)) table 0 n text guesses stands in
+    let e : guess text ≡ n = ap place_of guessed ∙ omega arith in
+    let found : is_found (slice_get table (guess text)) text ≡ true = ap (λ m. is_found (slice_get table m) text) e ∙ ap (λ found. is_found found text) stands ∙ (bytes_eq-Decides text text).1 refl in
+    cc
+
+pub place_in-guess : (guess : List ℕ → ℕ) (table : List (List ℕ)) → map (place_in table) table ≡ numbered 0 table → map (λ word. Some (guess word)) table ≡ numbered 0 table → (text : List ℕ) (stands : Bool) → stands_at table (guess text) text ≡ stands → place_in table text ≡ if_there stands (guess text)
+unfolding stands_at
+place_in-guess guess table places guesses text true is = there guess table text (slice_get table (guess text)) places refl is
+place_in-guess guess table places guesses text false is = not_there guess table text guesses is (place_in table text) refl
+
+-- What a look-up in a table of borrowed texts finds.
+pub stands_within : (table : List (Bor (List ℕ))) (place : ℕ) (text : Bor (List ℕ)) (bytes : List ℕ) → place < length table → text ≡ get_or table place text → bytes_eq text.now bytes ≡ stands_at (map (λ text. text.now) table) place bytes
+unfolding stands_at
+stands_within table place text bytes within is =
+    let at : slice_get table place ≡ Some text = slice_get-get_or table place text within ∙ ap Some (sym is) in
+    sym (ap (λ found. is_found found bytes) (slice_get-map (λ text. text.now) table place ∙ ap (option_map (λ text. text.now)) at))
+
+pub stands_not_behind : (table : List (Bor (List ℕ))) (place : ℕ) (bytes : List ℕ) → length table ≤ place → false ≡ stands_at (map (λ text. text.now) table) place bytes
+unfolding stands_at
+stands_not_behind table place bytes behind =
+    sym (ap (λ found. is_found found bytes) (slice_get-map (λ text. text.now) table place ∙ ap (option_map (λ text. text.now)) (slice_get_past table place behind)))

@@ -1,5 +1,6 @@
 pub mod Digits
 pub mod Escapes
+pub mod Guesses
 pub mod Identifiers
 pub mod Numbers
 pub mod Operators

@@ -6,6 +6,7 @@ mod exprs;
 mod names;
 mod operators;
 mod stmts;
+mod tables;
 #[cfg(test)]
 mod tests;
 mod tokens;

@@ -1,52 +1,62 @@
-ghost use Rattle.std.specs.Prelude.{◌≡◌, ◌<◌, ℕ, List, length, slice_get, position, IfSome, Some, IsTrue, map};
-ghost use Rattle.std.specs.Str.{bytes_eq};
+ghost use Rattle.std.specs.Prelude.{◌≡◌, ℕ, List, slice_get, Some, IsTrue, map};
+ghost use Rattle.rf_jtree.specs.Guesses.{keyword_guess};
 ghost use Rattle.rf_jtree.specs.Words.{keyword_of, KEYWORDS};
+
+use crate::tables::{byte_at, stands_at};
 
 /// The place, from 0, of a keyword in the list of the 50 keywords in alphabetical order (JLS 3.9).
 #[derive(Clone, Copy, Debug, PartialEq, Eq)]
 pub struct Kw(pub u8);
 
-/// The 50 keywords of Java (JLS 3.9), once: bodies get them by the macro that they hand in.
-macro_rules! keywords {
-    ($with:ident $(, $arg:expr)*) => {
-        $with!($($arg,)*;
-            b"abstract", b"assert", b"boolean", b"break", b"byte", b"case", b"catch", b"char", b"class", b"const",
-            b"continue", b"default", b"do", b"double", b"else", b"enum", b"extends", b"final", b"finally", b"float",
-            b"for", b"goto", b"if", b"implements", b"import", b"instanceof", b"int", b"interface", b"long", b"native",
-            b"new", b"package", b"private", b"protected", b"public", b"return", b"short", b"static", b"strictfp",
-            b"super", b"switch", b"synchronized", b"this", b"throw", b"throws", b"transient", b"try", b"void",
-            b"volatile", b"while")
-    };
-}
+/// The keywords of Java (JLS 3.9).
+#[rattlefmt::skip]
+static WORDS: [&[u8]; 50] = [
+    b"abstract", b"assert", b"boolean", b"break", b"byte", b"case", b"catch", b"char", b"class", b"const",
+    b"continue", b"default", b"do", b"double", b"else", b"enum", b"extends", b"final", b"finally", b"float", b"for",
+    b"goto", b"if", b"implements", b"import", b"instanceof", b"int", b"interface", b"long", b"native", b"new",
+    b"package", b"private", b"protected", b"public", b"return", b"short", b"static", b"strictfp", b"super", b"switch",
+    b"synchronized", b"this", b"throw", b"throws", b"transient", b"try", b"void", b"volatile", b"while",
+];
 
-macro_rules! place_among {
-    ($bytes:expr,; $($word:literal),*) => {
-        place(&[$($word as &[u8]),*], $bytes)
-    };
-}
+/// At each hash the place of the one keyword that has it: the length and the first two letters tell the keywords apart.
+#[rattlefmt::skip]
+static PLACES: [u8; 256] = [
+    0, 0, 0, 1, 0, 0, 0, 0, 0, 0, 0, 0, 0, 0, 32, 0,
+    0, 0, 0, 0, 0, 0, 0, 0, 0, 0, 33, 0, 0, 0, 45, 37,
+    0, 0, 0, 39, 0, 0, 34, 0, 0, 0, 0, 38, 0, 0, 0, 0,
+    0, 0, 0, 0, 4, 0, 0, 0, 0, 0, 0, 0, 0, 40, 0, 16,
+    0, 0, 0, 0, 0, 5, 0, 0, 0, 0, 0, 6, 0, 0, 0, 0,
+    0, 0, 0, 0, 0, 0, 0, 0, 0, 0, 0, 0, 29, 0, 0, 0,
+    0, 0, 0, 0, 31, 0, 0, 0, 0, 0, 0, 0, 0, 0, 0, 0,
+    0, 22, 30, 0, 0, 41, 0, 0, 0, 0, 0, 0, 0, 0, 0, 0,
+    11, 0, 0, 0, 0, 0, 0, 0, 35, 0, 0, 7, 0, 0, 0, 0,
+    0, 0, 0, 0, 0, 0, 0, 0, 0, 0, 0, 0, 42, 0, 17, 0,
+    0, 36, 43, 0, 0, 49, 0, 0, 44, 0, 18, 0, 0, 0, 0, 0,
+    0, 0, 0, 0, 0, 14, 0, 0, 0, 8, 0, 0, 19, 0, 0, 0,
+    0, 0, 0, 0, 0, 0, 12, 26, 0, 15, 0, 0, 0, 0, 20, 24,
+    0, 0, 0, 0, 0, 21, 0, 9, 0, 0, 28, 0, 0, 0, 13, 0,
+    0, 0, 2, 0, 47, 0, 0, 23, 0, 10, 0, 27, 0, 0, 0, 0,
+    0, 25, 0, 0, 3, 0, 0, 0, 0, 0, 46, 0, 48, 0, 0, 0,
+];
 
-/// The place of the first of `words` that is `bytes`.
-pub(crate) fn place(words: &[&[u8]], bytes: &[u8]) -> Option<usize>
-    ensures at { result ≡ position (λ word. bytes_eq word.now bytes.now) words.now }
-    ensures within { IfSome result (λ n. n < length words.now) }
+/// Where `bytes` stands among the keywords, if it is one.
+fn guess(bytes: &[u8]) -> u8
+    ensures { result ≡ keyword_guess bytes.now }
 {
-    words.iter().position(|word| *word == bytes)
+    let hash = byte_at(bytes, 0) + 10 * byte_at(bytes, 1) + 6 * (bytes.len() % 256);
+    PLACES[hash % 256]
 }
 
 /// The keyword that `bytes` spells, or `None` where it spells none (JLS 3.9). It takes no memory.
 pub fn keyword(bytes: &[u8]) -> Option<Kw>
     ensures { result ≡ keyword_of bytes.now }
 {
-    match keywords!(place_among, bytes) {
-        Some(place) => Some(Kw(place as u8)),
-        None => None,
+    let place = guess(bytes);
+    if stands_at(&WORDS, place, bytes) {
+        Some(Kw(place))
+    } else {
+        None
     }
-}
-
-macro_rules! each_found {
-    (; $($word:literal),*) => {
-        each_is_found(&[$($word as &[u8]),*])
-    };
 }
 
 /// Whether each of `words` is the keyword of its place.
@@ -67,7 +77,7 @@ fn each_is_found(words: &[&[u8]]) -> bool
 pub fn every_keyword_is_found() -> bool
     ensures { IsTrue result }
 {
-    keywords!(each_found)
+    each_is_found(&WORDS)
 }
 
 /// Each word of the list is a keyword with its own place, and nothing else is one.

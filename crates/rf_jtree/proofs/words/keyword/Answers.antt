@@ -1,11 +1,13 @@
-use Rattle.std.proofs.Common.{ap}
-use Rattle.rf_jtree.specs.Words.{KEYWORDS, keyword_of, at_place}
+use Rattle.std.proofs.Common.{true, false, sym, ap, ◌∙◌}
+use Rattle.rf_jtree.specs.Guesses.{stands_at}
+use Rattle.rf_jtree.specs.Words.{KEYWORDS}
+use Rattle.rf_jtree.proofs.WordLemmas.{keyword_of-guess}
 use Rattle.rf_jtree.proofs.words.keyword.Goals as goal
 
-pub returns-in-Some : goal.returns-in-Some
-unfolding KEYWORDS keyword_of
-returns-in-Some c = ap at_place c.in-Some.ensures.at
+pub returns-then-stands_at : goal.returns-then-stands_at
+unfolding KEYWORDS
+returns-then-stands_at c = let place = c.guess-place.ensures in rw (place) (sym (keyword_of-guess c.args.bytes.now true (ap (λ n. stands_at KEYWORDS n c.args.bytes.now) (sym place) ∙ sym c.stands_at.ensures ∙ c.if-stands_at.true)))
 
-pub returns-in-None : goal.returns-in-None
-unfolding KEYWORDS keyword_of
-returns-in-None c = ap at_place c.in-None.ensures.at
+pub returns-else-stands_at : goal.returns-else-stands_at
+unfolding KEYWORDS
+returns-else-stands_at c = sym (keyword_of-guess c.args.bytes.now false (ap (λ n. stands_at KEYWORDS n c.args.bytes.now) (sym c.guess-place.ensures) ∙ sym c.stands_at.ensures ∙ c.if-stands_at.false))
