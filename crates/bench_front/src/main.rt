@@ -1,13 +1,13 @@
 //! The front end alone, for measurements and for cases. `bench_front tokens FILE` prints `tokens N`, with the number of
-//! tokens; `bench_front expr FILE` prints `expr N`, with the number of the token behind the expression that the file begins
-//! with, or `syntax` where it begins with none. Both print `lex OFFSET`, with the byte at which no token begins, where there
-//! is one.
+//! tokens. `bench_front tree FILE` prints `tree N`, with the same number, or `syntax` where the tokens have no tree.
+//! `bench_front expr FILE` prints `expr N`, with the number of the token behind the expression that the file begins with, or
+//! `syntax` where it begins with none. Each prints `lex OFFSET`, with the byte at which no token begins, where there is one.
 #![tactic(auto)]
 
 use rf_jdecl::unit;
 use rf_jexpr::{ParseErr, boxed_expr};
 use rf_jlex::{LexErr, lex};
-use rf_jtree::Tok;
+use rf_jtree::{Tok, Toks};
 use rf_text::Bytes;
 use rf_world::{RealWorld, World, WorldErr};
 use std::alloc::Global;
@@ -41,7 +41,7 @@ enum Verdict {
     Tree(usize),
     /// No token begins at this byte.
     Fault(usize),
-    /// It doesn't begin with what is asked for.
+    /// It has no tree, or doesn't begin with an expression.
     Syntax,
 }
 
@@ -129,18 +129,18 @@ fn expr_verdict(alloc: Global, toks: &[Tok]) -> Result<Verdict, Failure> {
 }
 
 /// Reads the file that the tokens are.
-fn tree_verdict(alloc: Global, toks: &[Tok]) -> Result<Verdict, Failure> {
+fn tree_verdict(alloc: Global, toks: &Toks) -> Result<Verdict, Failure> {
     match unit(alloc, toks) {
-        Ok(_) => Ok(Verdict::Tree(toks.len())),
+        Ok(_) => Ok(Verdict::Tree(toks.list.len())),
         Err(ParseErr::NoTree) => Ok(Verdict::Syntax),
         Err(ParseErr::Memory) => Err(Failure::Memory),
     }
 }
 
-fn toks_verdict(alloc: Global, mode: Mode, toks: &[Tok]) -> Result<Verdict, Failure> {
+fn toks_verdict(alloc: Global, mode: Mode, toks: &Toks) -> Result<Verdict, Failure> {
     match mode {
-        Mode::Tokens => Ok(Verdict::Tokens(toks.len())),
-        Mode::Expr => expr_verdict(alloc, toks),
+        Mode::Tokens => Ok(Verdict::Tokens(toks.list.len())),
+        Mode::Expr => expr_verdict(alloc, toks.list.as_slice()),
         Mode::Tree => tree_verdict(alloc, toks),
     }
 }
@@ -154,7 +154,7 @@ fn verdict_on<W: World>(
 ) -> Result<Verdict, Failure> {
     match world.read(alloc, b"", path) {
         Ok(file) => match lex(alloc, file.as_slice()) {
-            Ok(toks) => toks_verdict(alloc, mode, toks.list.as_slice()),
+            Ok(toks) => toks_verdict(alloc, mode, &toks),
             Err(LexErr::Fault { offset }) => Ok(Verdict::Fault(offset)),
             Err(LexErr::Memory) => Err(Failure::Memory),
         },

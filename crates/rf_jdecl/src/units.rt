@@ -12,7 +12,7 @@ use crate::decls::type_decl;
 use crate::imports::{imports_at, some_package};
 use rf_jexpr::{Found, ParseErr, Taken, Want, attempt, take};
 use rf_jfit::operators::SEMICOLON;
-use rf_jtree::{Tok, Unit};
+use rf_jtree::{Tok, Toks, Unit};
 use rf_text::{List, Memory};
 use std::alloc::Global;
 
@@ -68,8 +68,8 @@ fn whole_unit(alloc: Global, t: &[Tok], room: u32) -> Result<Unit, ParseErr>
 
 /// The file that these tokens are, with no expression or statement in it deeper than 200 (JLS 7.3). Where there is none,
 /// `NoTree` comes.
-pub fn unit(alloc: Global, t: &[Tok]) -> Result<Unit, ParseErr>
-    ensures { IsFile t.now result }
+pub fn unit(alloc: Global, toks: &Toks) -> Result<Unit, ParseErr>
+    ensures { IsFile toks.now.list result }
 {
-    whole_unit(alloc, t, 200)
+    whole_unit(alloc, toks.list.as_slice(), 200)
 }

@@ -1,5 +1,7 @@
+use Rattle.std.proofs.Common.{sym, subst}
+use Rattle.rf_jdecl.specs.Files.{IsFile}
 use Rattle.rf_jdecl.proofs.AnswerLemmas.{file-of}
 use Rattle.rf_jdecl.proofs.units.unit.Goals as goal
 
 pub returns : goal.returns
-returns c = file-of c.args.t.now c.whole_unit.result c.whole_unit.ensures
+returns c = subst (λ toks. IsFile toks c.whole_unit.result) c.as_slice.ensures (file-of _ c.whole_unit.result c.whole_unit.ensures)

@@ -3,6 +3,7 @@
 use crate::{tokens, unit_told};
 use rf_jdecl::unit;
 use rf_jexpr::attempt;
+use rf_jtree::Toks;
 use rf_text::{Bytes, Memory};
 use std::alloc::Global;
 use std::process::Abort;
@@ -10,8 +11,11 @@ use std::test::Fail;
 
 /// How the file of these tokens is told: `none` where they are none.
 pub(crate) fn told(alloc: Global, text: &str) -> Result<Bytes, Memory> {
-    let toks = tokens(alloc, text)?;
-    match attempt(unit(alloc, toks.as_slice()))? {
+    let toks = Toks {
+        list: tokens(alloc, text)?,
+        tail: Bytes::new(alloc),
+    };
+    match attempt(unit(alloc, &toks))? {
         Some(unit) => unit_told(alloc, &unit),
         None => Bytes::from_slice(alloc, b"none"),
     }
