@@ -9,7 +9,7 @@ use rf_jfit::operators::{ASSIGNMENTS, PREFIXES, SUFFIXES};
 use rf_jfit::words::PRIMITIVES;
 use rf_jfit::{is_ident, is_key, is_key_of, is_literal, is_op, is_op_of};
 use rf_jtree::{Kw, Op, Tok};
-use rf_text::{Bytes, Memory};
+use rf_text::Memory;
 use std::alloc::Global;
 
 /// What a token may be asked to be.
@@ -51,8 +51,8 @@ pub(crate) fn passes(want: Want, tok: &Tok) -> bool
 pub(crate) fn copy_tok(alloc: Global, tok: &Tok) -> Result<Tok, Memory>
     ensures { IfOk result (λ copied. copied ≡ tok.now) }
 {
-    let lead = Bytes::from_slice(alloc, tok.lead.as_slice())?;
-    let text = Bytes::from_slice(alloc, tok.text.as_slice())?;
+    let lead = tok.lead.copy(alloc)?;
+    let text = tok.text.copy(alloc)?;
     Ok(Tok {
         kind: tok.kind,
         lead,

@@ -6,6 +6,7 @@ mod bytes;
 mod list;
 mod memory;
 mod names;
+mod short;
 mod span;
 #[cfg(test)]
 mod tests;

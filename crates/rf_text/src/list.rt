@@ -80,10 +80,23 @@ impl<T> List<T> {
 }
 
 impl<T: Drop> List<T> {
+    /// Room for one item at first, since most lists of a tree have one, and then for twice as many each time.
+    fn make_room(&mut self) -> Result<(), Memory>
+        ensures { self.new ≡ self.old }
+    {
+        let len = self.items.len();
+        if len < self.items.capacity() {
+            return Ok(());
+        }
+        self.items.reserve_exact(len.max(1))?;
+        Ok(())
+    }
+
     pub fn push(&mut self, item: T) -> Result<(), Memory>
         ensures ok { OnOk result (self.new ≡ self.old ++ item ∷ []) }
         ensures err { OnErr result (self.new ≡ self.old) }
     {
+        self.make_room()?;
         self.items.push(item)?;
         Ok(())
     }

@@ -10,16 +10,45 @@ fn grown(alloc: Global, first: &[u8], more: &[u8]) -> Result<Bytes, Memory> {
     let mut text = Bytes::from_slice(alloc, first)?;
     text.extend(more)?;
     text.push(b'!')?;
-    Ok(Bytes::from_vec(text.into_vec()))
+    Ok(text)
+}
+
+/// The same bytes in a text that is made of a vector.
+fn given(alloc: Global, bytes: &[u8]) -> Result<Bytes, Memory> {
+    let items = bytes.to_vec(alloc)?;
+    Bytes::from_vec(alloc, items)
+}
+
+#[test]
+fn few_bytes_and_many_are_read_back_and_copied(rt: HostRuntime) -> Result<(), Fail> {
+    let alloc = rt.alloc();
+    let cases: [&[u8]; 6] = [
+        b"",
+        b"x",
+        b"thirteen.....",
+        b"fourteen......",
+        b"fifteen........",
+        b"a text of more than fifteen bytes",
+    ];
+    for bytes in cases {
+        let text = Bytes::from_slice(alloc, bytes)?;
+        assert_eq!(rt; text.as_slice(), bytes);
+        assert_eq!(rt; text.copy(alloc)?.as_slice(), bytes);
+        assert_eq!(rt; text.is_empty(), bytes.is_empty());
+        assert_eq!(rt; given(alloc, bytes)?.copy(alloc)?.as_slice(), bytes);
+        assert_eq!(rt; grown(alloc, bytes, bytes)?.len(), 2 * bytes.len() + 1);
+    }
+    Ok(())
 }
 
 #[test]
 fn bytes_grow_at_their_end(rt: HostRuntime) -> Result<(), Fail> {
     let alloc = rt.alloc();
-    let cases: [(&[u8], &[u8], &[u8]); 3] = [
+    let cases: [(&[u8], &[u8], &[u8]); 4] = [
         (b"", b"", b"!"),
         (b"", b" A", b" A!"),
         (b"class", b"\xff\0", b"class\xff\0!"),
+        (b"fifteen bytes..", b" A", b"fifteen bytes.. A!"),
     ];
     for (first, more, want) in cases {
         let text = grown(alloc, first, more)?;

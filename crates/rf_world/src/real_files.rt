@@ -31,7 +31,7 @@ pub(crate) fn read<R: Files>(
     if count as u64 > MOST_BYTES {
         return Err(WorldErr::Failed);
     }
-    Ok(Bytes::from_vec(bytes))
+    Ok(Bytes::from_vec(alloc, bytes)?)
 }
 
 /// Makes the file or replaces its bytes, and makes the folders that it needs.
