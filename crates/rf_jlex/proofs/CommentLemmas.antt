@@ -39,7 +39,7 @@ ends_behind front rest = record {
 slash_is_not_zero : (byte : ℕ) → byte ≡ 47 → byte ≡ 0 → ⊥
 slash_is_not_zero byte slash none = omega arith
 
-ends_within : (text : List ℕ) (at : ℕ) → EndsAt text at → at + 1 < length text
+pub ends_within : (text : List ℕ) (at : ℕ) → EndsAt text at → at + 1 < length text
 ends_within text at ends =
     elim (cases_lt (at + 1) (length text)) [
       | inl within ↦ within

@@ -26,6 +26,8 @@ mod OctalEscapeLemmas
 mod OperatorFrontLemmas
 mod PieceLemmas
 mod QuotedLemmas
+mod RunLemmas
+mod SearchLemmas
 mod SortLemmas
 mod StringLemmas
 mod StringLiteralLemmas

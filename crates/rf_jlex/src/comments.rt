@@ -5,6 +5,7 @@ ghost use Rattle.rf_jlex.specs.Comments.{line_length, GivesFirstEnd, AllowsEscap
 ghost use Rattle.rf_jlex.specs.Fronts.{GivesOnly};
 
 use crate::escapes::unicode_escape;
+use memchr::{memchr, memmem};
 use std::str;
 
 /// The codes that no escape in a comment stands for: LF, CR, `*` and `/` (JLS 3.3).
@@ -55,12 +56,7 @@ fn line_length(text: &[u8]) -> usize
 fn first_end(body: &[u8]) -> Option<usize>
     ensures { GivesFirstEnd body.now result }
 {
-    for (at, byte) in body.iter().enumerate() {
-        if *byte == b'*' && body.get(at + 1) == Some(&b'/') {
-            return Some(at);
-        }
-    }
-    None
+    memmem::find(body, b"*/")
 }
 
 /// Whether the bytes of a comment are text, and its escapes may stand in a comment.
@@ -72,6 +68,16 @@ fn is_readable(comment: &[u8]) -> bool
 
 /// Whether each `\u` begins an escape that may stand in a comment, but for those whose backslash a backslash escapes.
 fn escapes_are_allowed(comment: &[u8]) -> bool
+    ensures { IsTrue result ↔ EscapesAreAllowed comment.now }
+{
+    match memchr(b'\\', comment) {
+        Some(_) => escapes_fit(comment),
+        None => true,
+    }
+}
+
+/// The same, backslash by backslash.
+fn escapes_fit(comment: &[u8]) -> bool
     ensures { IsTrue result ↔ EscapesAreAllowed comment.now }
 {
     let mut is_escaped = false;

@@ -1,4 +1,7 @@
+ghost use Rattle.std.specs.Prelude.{◌≡◌, ◌≤◌, length, take, drop};
+ghost use Rattle.std.specs.List.{take_while};
 ghost use Rattle.rf_jtree.specs.Tokens.{Skips};
+ghost use Rattle.rf_jlex.specs.Classes.{is_white};
 ghost use Rattle.rf_jlex.specs.Cuts.{IsNext};
 ghost use Rattle.rf_jlex.specs.Lexed.{IsLexed};
 
@@ -46,12 +49,36 @@ struct Front<'a> {
     next: Next,
 }
 
+fn is_white(byte: u8) -> bool
+    ensures { result ≡ is_white byte }
+{
+    matches!(byte, b' ' | b'\t' | 0x0C | b'\r' | b'\n')
+}
+
+/// How many bytes of white space stand at the front of `text` (JLS 3.6).
+fn white_length(text: &[u8]) -> usize
+    ensures { result ≡ length (take_while is_white text.now) }
+{
+    text.iter().take_while(|byte| is_white(**byte)).count()
+}
+
+/// The place behind the white space that stands at this place.
+fn behind_white(text: &[u8], at: usize) -> usize
+    requires { at ≤ length text.now }
+    ensures within { result ≤ length text.now }
+    ensures forth { at ≤ result }
+    ensures skips { Skips text.now (take at text.now) (drop at text.now) → Skips text.now (take result text.now) (drop result text.now) }
+{
+    let rest = text.split_at(at).1;
+    at + white_length(rest)
+}
+
 /// Cuts off the trivia at the front of `text`.
 fn cut_trivia(text: &[u8]) -> Front<'_>
     ensures skips { Skips text.now result.lead.now result.rest.now }
     ensures next { IsNext result.rest.now result.next }
 {
-    let mut skipped = 0;
+    let mut skipped = behind_white(text, 0);
     loop {
         let (lead, rest) = text.split_at(skipped);
         let Some(piece) = longest_piece(rest) else {
@@ -71,7 +98,7 @@ fn cut_trivia(text: &[u8]) -> Front<'_>
                 },
             };
         }
-        skipped += piece.length;
+        skipped = behind_white(text, skipped + piece.length);
     }
 }
 

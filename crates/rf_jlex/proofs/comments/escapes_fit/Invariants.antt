@@ -1,7 +1,7 @@
 use Rattle.std.proofs.Common.{◌≡◌, ℕ, ◌%◌, ◌<◌, cond, take}
 use Rattle.rf_jtree.specs.Trivia.{trailing_backslashes}
 use Rattle.rf_jlex.proofs.EscapeScanLemmas.{EscapeMayStandAt}
-use Rattle.rf_jlex.proofs.comments.escapes_are_allowed.Given as goal
+use Rattle.rf_jlex.proofs.comments.escapes_fit.Given as goal
 
 abbrev pub invariant-loop-at : goal.invariant-loop-at
 invariant-loop-at l = record {
