@@ -11,10 +11,11 @@ use rf_jtree::{Tok, Toks};
 use rf_text::Bytes;
 use rf_world::{RealWorld, World, WorldErr};
 use std::alloc::Global;
-use std::env;
-use std::io::Print;
+use std::io::{ErrorKind, Print};
+use std::mem::forget;
 use std::process::ExitCode;
 use std::rt::{Env, Files};
+use std::{env, io};
 
 /// How deep the trees are that are read.
 const ROOM: u32 = 200;
@@ -95,11 +96,17 @@ fn mode_named(word: &str) -> Option<Mode> {
     }
 }
 
+/// Why the words can't be read: for want of memory, or since one of them isn't UTF-8.
+fn words_failure(error: io::Error) -> Failure {
+    match error.kind() {
+        ErrorKind::OutOfMemory => Failure::Memory,
+        _ => Failure::BadWords,
+    }
+}
+
 /// The MODE and the FILE of the words.
 fn asked<R: Env + AllocGlobal>(alloc: Global, rt: &R) -> Result<(Mode, Bytes), Failure> {
-    let Ok(mut words) = env::args(rt) else {
-        return Err(Failure::BadWords);
-    };
+    let mut words = env::args(rt).map_err(words_failure)?;
     let _program = words.next();
     let Some(command) = words.next() else {
         return Err(Failure::BadWords);
@@ -131,7 +138,10 @@ fn expr_verdict(alloc: Global, toks: &[Tok]) -> Result<Verdict, Failure> {
 /// Reads the file that the tokens are.
 fn tree_verdict(alloc: Global, toks: &Toks) -> Result<Verdict, Failure> {
     match unit(alloc, toks) {
-        Ok(_) => Ok(Verdict::Tree(toks.list.len())),
+        Ok(tree) => {
+            forget(tree);
+            Ok(Verdict::Tree(toks.list.len()))
+        }
         Err(ParseErr::NoTree) => Ok(Verdict::Syntax),
         Err(ParseErr::Memory) => Err(Failure::Memory),
     }
@@ -145,7 +155,8 @@ fn toks_verdict(alloc: Global, mode: Mode, toks: &Toks) -> Result<Verdict, Failu
     }
 }
 
-/// Reads a file, lexes it and goes on with its tokens.
+/// Reads a file, lexes it and goes on with its tokens. The program ends next, so tokens and tree are left to the system,
+/// which is sooner than letting go of each of their parts.
 fn verdict_on<W: World>(
     alloc: Global,
     world: &mut W,
@@ -154,7 +165,11 @@ fn verdict_on<W: World>(
 ) -> Result<Verdict, Failure> {
     match world.read(alloc, b"", path) {
         Ok(file) => match lex(alloc, file.as_slice()) {
-            Ok(toks) => toks_verdict(alloc, mode, &toks),
+            Ok(toks) => {
+                let verdict = toks_verdict(alloc, mode, &toks);
+                forget(toks);
+                verdict
+            }
             Err(LexErr::Fault { offset }) => Ok(Verdict::Fault(offset)),
             Err(LexErr::Memory) => Err(Failure::Memory),
         },

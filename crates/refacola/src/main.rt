@@ -6,6 +6,7 @@ use rf_text::{Bytes, List, Memory};
 use rf_world::{RealSink, RealWorld};
 use std::alloc::Global;
 use std::env;
+use std::io::ErrorKind;
 use std::process::ExitCode;
 use std::rt::Env;
 
@@ -24,8 +25,10 @@ fn main(rt: HostRuntime) -> ExitCode {
 /// The words after the program's name. Where one of them isn't UTF-8 there are none, which is no command.
 fn words<R: Env + AllocGlobal>(alloc: Global, rt: &R) -> Result<List<Bytes>, Memory> {
     let mut words = List::new(alloc);
-    let Ok(all) = env::args(rt) else {
-        return Ok(words);
+    let all = match env::args(rt) {
+        Ok(all) => all,
+        Err(error) if error.kind() == ErrorKind::OutOfMemory => return Err(Memory),
+        Err(_) => return Ok(words),
     };
     for word in all.skip(1) {
         words.push(Bytes::from_slice(alloc, word.as_bytes())?)?;
