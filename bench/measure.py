@@ -3,7 +3,7 @@ import os
 import subprocess
 import time
 
-RUNS = 15
+RUNS = 50
 MOST_SECONDS = 30
 GOAL = 2.3
 TOP = os.path.dirname(os.path.dirname(os.path.abspath(__file__)))
