@@ -12,7 +12,7 @@ use rf_world::{World, WorldErr};
 use std::alloc::Global;
 
 /// The path of the Java file, and what is to be done with it.
-#[derive(Debug, Drop)]
+#[derive(Drop)]
 pub(crate) struct Decision {
     pub path: Bytes,
     pub answer: FirstPath,

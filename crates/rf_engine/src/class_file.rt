@@ -29,7 +29,7 @@ pub(crate) struct FieldParts<'a> {
 }
 
 /// A class, cut from the file.
-#[derive(Debug, Drop)]
+#[derive(Drop)]
 pub(crate) struct ClassParts<'a> {
     pub before: &'a [u8],
     pub gap: &'a [u8],
@@ -51,7 +51,7 @@ struct HeadCut<'a> {
 }
 
 /// The fields that the text begins with, and the rest of the text behind them.
-#[derive(Debug, Drop)]
+#[derive(Drop)]
 struct FieldsCut<'a> {
     fields: List<FieldParts<'a>>,
     rest: &'a [u8],

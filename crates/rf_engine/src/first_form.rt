@@ -13,7 +13,7 @@ use rf_text::{Bytes, Memory};
 use std::alloc::Global;
 
 /// What the first form gives.
-#[derive(Debug, Drop)]
+#[derive(Drop)]
 pub enum FirstPath {
     /// The bytes of the changed file, and the lines to put.
     Changed { bytes: Bytes, report: Bytes },

@@ -1,7 +1,7 @@
 -- How large a statement is: more than all its parts together. A check of a statement goes to lighter parts.
 use Rattle.std.proofs.Common.{ℕ, ◌+◌}
-use Rattle.rf_jfit.specs.StmtTrees.{StmtTree, Block, Empty, Label, Value, If, While, Do, For, Each, Switch, Jump, Return, Throw, Sync, Assert, Try}
-use Rattle.rf_jfit.specs.StmtTrees.{BlockTree, Braces, StmtsTree, NoStmts, Stmts, OtherTree, NoOther, Other, GroupTree, Group, GroupsTree, NoGroups, Groups, CatchTree, Catch, CatchesTree, NoCatches, Catches, LastTree, NoLast, Last}
+use Rattle.rf_jtree.specs.StmtTrees.{StmtTree, Block, Empty, Label, Value, If, While, Do, For, Each, Switch, Jump, Return, Throw, Sync, Assert, Try}
+use Rattle.rf_jtree.specs.StmtTrees.{BlockTree, Braces, StmtsTree, NoStmts, Stmts, OtherTree, NoOther, Other, GroupTree, Group, GroupsTree, NoGroups, Groups, CatchTree, Catch, CatchesTree, NoCatches, Catches, LastTree, NoLast, Last}
 
 abbrev mutual
   pub stmt_weight : StmtTree → ℕ

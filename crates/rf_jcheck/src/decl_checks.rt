@@ -1,18 +1,18 @@
 ghost use Rattle.std.specs.Prelude.{◌≡◌, ◌↔◌, IsTrue, IsSome, IsNone, IfSome, option_map};
 ghost use Rattle.rf_jtree.specs.declared.tokens.Tok.{Tok};
-ghost use Rattle.rf_jfit.specs.DeclFits.{MemberFits, is_semi, ClassTakes, IsInterfaceMethod, EachBegins, IsInterfaceField, InterfaceTakes, IsOneName, IsClass, IsInterface, DeclFits};
-ghost use Rattle.rf_jfit.specs.DeclShown.{names_shown, body_shown, member_shown, members_shown, decl_shown};
-ghost use Rattle.rf_jfit.specs.NameFits.{EachFits};
-ghost use Rattle.rf_jfit.specs.NameShown.{many_shown, mods_shown};
-ghost use Rattle.rf_jfit.specs.StmtShown.{var_shown, more_vars_shown};
-ghost use Rattle.rf_jfit.specs.StmtTrees.{VarTree};
+ghost use Rattle.rf_jtree.specs.DeclFits.{MemberFits, is_semi, ClassTakes, IsInterfaceMethod, EachBegins, IsInterfaceField, InterfaceTakes, IsOneName, IsClass, IsInterface, DeclFits};
+ghost use Rattle.rf_jtree.specs.DeclShown.{names_shown, body_shown, member_shown, members_shown, decl_shown};
+ghost use Rattle.rf_jtree.specs.NameFits.{EachFits};
+ghost use Rattle.rf_jtree.specs.NameShown.{many_shown, mods_shown};
+ghost use Rattle.rf_jtree.specs.StmtShown.{var_shown, more_vars_shown};
+ghost use Rattle.rf_jtree.specs.StmtTrees.{VarTree};
 
 use crate::member_checks::member_fits;
 use crate::member_parts::{has_word_of, is_visible, names_fit};
 use crate::mod_checks::mods_fit;
 use crate::name_checks::are_braces;
-use rf_jfit::words::{ABSTRACT, CLASS, EXTENDS, IMPLEMENTS, INTERFACE, NATIVE, STATIC};
 use rf_jfit::{is_ident, is_key};
+use rf_jtree::keyword_names::{ABSTRACT, CLASS, EXTENDS, IMPLEMENTS, INTERFACE, NATIVE, STATIC};
 use rf_jtree::{Body, Many, Member, Mod, Name, Tok, TypeDecl, Var};
 use rf_text::List;
 

@@ -1,9 +1,9 @@
-#![tactic(auto, using(rf_jfit::proofs::ExprShows::expr_shows))]
+#![tactic(auto, using(rf_jtree::proofs::ExprShows::expr_shows))]
 
 ghost use Rattle.std.specs.Prelude.{◌↔◌, IsTrue, IfSome, Some};
-ghost use Rattle.rf_jfit.specs.Kinds.{IsOp};
-ghost use Rattle.rf_jfit.specs.ExprFits.{ExprFits, OnFits, ArgsFit, SuperArgsFit, ExprsFit, MoreExprsFit, SizesFit, InitFits, BracesFit, InitsFit, MoreInitsFit, HasSize, HasBrackets};
-ghost use Rattle.rf_jfit.specs.ExprShown.{expr_shown, on_shown, args_shown, super_args_shown, exprs_shown, more_exprs_shown, sizes_shown, init_shown, braces_shown, inits_shown, more_inits_shown};
+ghost use Rattle.rf_jtree.specs.Kinds.{IsOp};
+ghost use Rattle.rf_jtree.specs.ExprFits.{ExprFits, OnFits, ArgsFit, SuperArgsFit, ExprsFit, MoreExprsFit, SizesFit, InitFits, BracesFit, InitsFit, MoreInitsFit, HasSize, HasBrackets};
+ghost use Rattle.rf_jtree.specs.ExprShown.{expr_shown, on_shown, args_shown, super_args_shown, exprs_shown, more_exprs_shown, sizes_shown, init_shown, braces_shown, inits_shown, more_inits_shown};
 
 use crate::form_checks::{
     is_assign, is_binary, is_cast, is_cond, is_field, is_index, is_instance, is_on, is_postfix,
@@ -12,9 +12,9 @@ use crate::form_checks::{
 use crate::name_checks::{
     are_braces, are_brackets, are_parens, base_fits, dims_fit, name_fits, type_fits,
 };
-use rf_jfit::operators::COMMA;
-use rf_jfit::words::{NEW, THIS};
 use rf_jfit::{is_ident, is_key, is_literal, is_op};
+use rf_jtree::keyword_names::{NEW, THIS};
+use rf_jtree::operator_names::COMMA;
 use rf_jtree::{Args, Braces, Dims, Expr, Init, Many, Tok};
 use rf_text::List;
 
@@ -112,7 +112,7 @@ fn has_brackets(dims: &Dims) -> bool
 
 /// Whether arguments in parentheses fit.
 #[cycle(expr)]
-#[tactic(auto, using(rf_jfit::proofs::ExprShows::args_shown_out))]
+#[tactic(auto, using(rf_jtree::proofs::ExprShows::args_shown_out))]
 pub fn args_fit(args: &Args) -> bool
     ensures { IsTrue result ↔ ArgsFit (args_shown args.now) }
 {
@@ -184,7 +184,7 @@ pub fn init_fits(init: &Init) -> bool
 
 /// Whether items in braces fit.
 #[cycle(expr)]
-#[tactic(auto, using(rf_jfit::proofs::ExprShows::braces_shown_out))]
+#[tactic(auto, using(rf_jtree::proofs::ExprShows::braces_shown_out))]
 pub fn braces_fit(braces: &Braces) -> bool
     ensures { IsTrue result ↔ BracesFit (braces_shown braces.now) }
 {

@@ -1,20 +1,20 @@
 ghost use Rattle.std.specs.Prelude.{◌↔◌, IsTrue};
-ghost use Rattle.rf_jfit.specs.ExprFits.{BeginsOperand, CastTakes, IsAssign, IsCond, IsBinary, IsInstance, IsUnary, IsCast, IsPostfix, IsOn, IsField, IsSuper, IsIndex};
-ghost use Rattle.rf_jfit.specs.ExprTrees.{expr_yield};
-ghost use Rattle.rf_jfit.specs.ExprShown.{expr_shown};
-ghost use Rattle.rf_jfit.specs.NameShown.{type_shown};
+ghost use Rattle.rf_jtree.specs.ExprFits.{BeginsOperand, CastTakes, IsAssign, IsCond, IsBinary, IsInstance, IsUnary, IsCast, IsPostfix, IsOn, IsField, IsSuper, IsIndex};
+ghost use Rattle.rf_jtree.specs.ExprTrees.{expr_yield};
+ghost use Rattle.rf_jtree.specs.ExprShown.{expr_shown};
+ghost use Rattle.rf_jtree.specs.NameShown.{type_shown};
 
 use crate::name_checks::{are_brackets, are_parens};
-use rf_jfit::levels::{
-    COMPARISON_LEVEL, CONDITIONAL_LEVEL, OR_OR_LEVEL, POSTFIX_LEVEL, PRIMARY_LEVEL, UNARY_LEVEL,
-    binary_level,
-};
-use rf_jfit::operators::{ASSIGNMENTS, COLON, DOT, PREFIXES, QUESTION, SUFFIXES};
-use rf_jfit::words::{INSTANCEOF, SUPER};
+use rf_jfit::levels::binary_level;
 use rf_jfit::{
     begins_operand, binds_at, expr_first, expr_level, is_ident, is_key, is_left_side, is_no_name,
     is_no_new_array, is_op, is_op_of,
 };
+use rf_jtree::keyword_names::{INSTANCEOF, SUPER};
+use rf_jtree::levels::{
+    COMPARISON_LEVEL, CONDITIONAL_LEVEL, OR_OR_LEVEL, POSTFIX_LEVEL, PRIMARY_LEVEL, UNARY_LEVEL,
+};
+use rf_jtree::operator_names::{ASSIGNMENTS, COLON, DOT, PREFIXES, QUESTION, SUFFIXES};
 use rf_jtree::{Expr, Tok, TypeBase, TypeUse};
 
 pub(crate) fn is_assign(left: &Expr, op: &Tok) -> bool

@@ -1,9 +1,9 @@
 ghost use Rattle.std.specs.Prelude.{◌↔◌, ◌⊎◌, IsTrue, IfSome, option_map};
-ghost use Rattle.rf_jfit.specs.DeclFits.{IsAccessOrAnnotation, CtorModsFit, CtorCallFits, RetFits, BodyFits, IsCallable, IsCtor, MemberFits};
-ghost use Rattle.rf_jfit.specs.DeclShown.{names_shown, params_shown, ctor_call_shown, ret_shown, body_shown, member_shown};
-ghost use Rattle.rf_jfit.specs.Kinds.{IsKey};
-ghost use Rattle.rf_jfit.specs.NameFits.{EachFits};
-ghost use Rattle.rf_jfit.specs.NameShown.{mod_shown, mods_shown};
+ghost use Rattle.rf_jtree.specs.DeclFits.{IsAccessOrAnnotation, CtorModsFit, CtorCallFits, RetFits, BodyFits, IsCallable, IsCtor, MemberFits};
+ghost use Rattle.rf_jtree.specs.DeclShown.{names_shown, params_shown, ctor_call_shown, ret_shown, body_shown, member_shown};
+ghost use Rattle.rf_jtree.specs.Kinds.{IsKey};
+ghost use Rattle.rf_jtree.specs.NameFits.{EachFits};
+ghost use Rattle.rf_jtree.specs.NameShown.{mod_shown, mods_shown};
 
 use crate::expr_checks::args_fit;
 use crate::member_parts::{names_fit, params_fit};
@@ -12,9 +12,9 @@ use crate::name_checks::{are_braces, type_fits};
 use crate::stmt_checks::{block_fits, stmts_fit};
 use crate::stmt_form_checks::is_key_or_none;
 use crate::variable_checks::vars_fit;
-use rf_jfit::operators::SEMICOLON;
-use rf_jfit::words::{ACCESSES, STATIC, SUPER, THIS, THROWS, VOID};
 use rf_jfit::{is_ident, is_key, is_key_of, is_op};
+use rf_jtree::keyword_names::{ACCESSES, STATIC, SUPER, THIS, THROWS, VOID};
+use rf_jtree::operator_names::SEMICOLON;
 use rf_jtree::{Body, CtorCall, Many, Member, Mod, Name, Params, Ret, Tok};
 use rf_text::List;
 

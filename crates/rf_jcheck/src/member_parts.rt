@@ -1,15 +1,15 @@
 ghost use Rattle.std.specs.Prelude.{◌≡◌, ◌↔◌, IsTrue, IfSome, option_map};
-ghost use Rattle.rf_jfit.specs.DeclFits.{is_word_of, has_word_of, IsNeitherPrivateNorProtected, NamesFit, ParamFits, ParamsFit};
-ghost use Rattle.rf_jfit.specs.DeclShown.{names_shown, more_names_shown, param_shown, more_params_shown, params_shown};
-ghost use Rattle.rf_jfit.specs.Kinds.{IsOp};
-ghost use Rattle.rf_jfit.specs.NameFits.{EachFits, ManyFit, NameFits};
-ghost use Rattle.rf_jfit.specs.NameShown.{many_shown, name_shown, mod_shown, mods_shown};
+ghost use Rattle.rf_jtree.specs.DeclFits.{is_word_of, has_word_of, IsNeitherPrivateNorProtected, NamesFit, ParamFits, ParamsFit};
+ghost use Rattle.rf_jtree.specs.DeclShown.{names_shown, more_names_shown, param_shown, more_params_shown, params_shown};
+ghost use Rattle.rf_jtree.specs.Kinds.{IsOp};
+ghost use Rattle.rf_jtree.specs.NameFits.{EachFits, ManyFit, NameFits};
+ghost use Rattle.rf_jtree.specs.NameShown.{many_shown, name_shown, mod_shown, mods_shown};
 
 use crate::name_checks::{are_parens, dims_fit, name_fits, type_fits};
 use crate::variable_checks::variable_mods_fit;
-use rf_jfit::operators::COMMA;
-use rf_jfit::words::{PRIVATE, PROTECTED};
 use rf_jfit::{is_ident, is_key, is_key_of, is_op};
+use rf_jtree::keyword_names::{PRIVATE, PROTECTED};
+use rf_jtree::operator_names::COMMA;
 use rf_jtree::{Kw, Many, Mod, Name, Param, Params, Tok};
 use rf_text::List;
 

@@ -1,12 +1,12 @@
 ghost use Rattle.std.specs.Prelude.{◌≡◌, ◌↔◌, IsTrue, IfSome, false, option_map};
-ghost use Rattle.rf_jfit.specs.Kinds.{IsOp, IsStr};
-ghost use Rattle.rf_jfit.specs.NameFits.{EachFits, ManyFit, IsMarkName, IsSuppressName, ParensFit, StrsFit, IsSuppress, ModFits, key_number, is_same_mod, NoneStandsTwice, is_access, HasOneAccessAtMost, ModsFit};
-ghost use Rattle.rf_jfit.specs.NameShown.{toks_shown, strs_shown, mod_shown, mods_shown};
+ghost use Rattle.rf_jtree.specs.Kinds.{IsOp, IsStr};
+ghost use Rattle.rf_jtree.specs.NameFits.{EachFits, ManyFit, IsMarkName, IsSuppressName, ParensFit, StrsFit, IsSuppress, ModFits, key_number, is_same_mod, NoneStandsTwice, is_access, HasOneAccessAtMost, ModsFit};
+ghost use Rattle.rf_jtree.specs.NameShown.{toks_shown, strs_shown, mod_shown, mods_shown};
 
 use crate::name_checks::{are_braces, are_parens};
-use rf_jfit::operators::{AT, COMMA};
-use rf_jfit::words::{ACCESSES, MODIFIERS};
 use rf_jfit::{is_ident, is_key_of, is_op, is_str};
+use rf_jtree::keyword_names::{ACCESSES, MODIFIERS};
+use rf_jtree::operator_names::{AT, COMMA};
 use rf_jtree::{Many, Mod, Strs, Tok, TokKind};
 use rf_text::List;
 

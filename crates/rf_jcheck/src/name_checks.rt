@@ -1,13 +1,13 @@
 ghost use Rattle.std.specs.Prelude.{◌≡◌, ◌↔◌, IsTrue};
-ghost use Rattle.rf_jfit.specs.Kinds.{IsOp, IsIdent, IsStr, AreParens, AreBrackets, AreBraces};
-ghost use Rattle.rf_jfit.specs.NameFits.{EachFits, ManyFit, NameFits, BracketsFit, DimsFit, BaseFits, TypeFits, IsMarkName, IsSuppressName, ParensFit, StrsFit, IsSuppress, ModFits};
-ghost use Rattle.rf_jfit.specs.NameShown.{toks_shown, name_shown, base_shown, type_shown, strs_shown, mod_shown};
+ghost use Rattle.rf_jtree.specs.Kinds.{IsOp, IsIdent, IsStr, AreParens, AreBrackets, AreBraces};
+ghost use Rattle.rf_jtree.specs.NameFits.{EachFits, ManyFit, NameFits, BracketsFit, DimsFit, BaseFits, TypeFits, IsMarkName, IsSuppressName, ParensFit, StrsFit, IsSuppress, ModFits};
+ghost use Rattle.rf_jtree.specs.NameShown.{toks_shown, name_shown, base_shown, type_shown, strs_shown, mod_shown};
 
-use rf_jfit::operators::{
+use rf_jfit::{is_ident, is_key_of, is_op, is_str};
+use rf_jtree::keyword_names::{MODIFIERS, PRIMITIVES};
+use rf_jtree::operator_names::{
     COMMA, DOT, LEFT_BRACE, LEFT_BRACKET, LEFT_PAREN, RIGHT_BRACE, RIGHT_BRACKET, RIGHT_PAREN,
 };
-use rf_jfit::words::{MODIFIERS, PRIMITIVES};
-use rf_jfit::{is_ident, is_key_of, is_op, is_str};
 use rf_jtree::{Dims, Many, Mod, Name, Strs, Tok, TypeBase, TypeUse};
 
 pub(crate) fn are_parens(left: &Tok, right: &Tok) -> bool

@@ -1,10 +1,10 @@
-#![tactic(auto, using(rf_jfit::proofs::StmtShows::stmt_shows))]
+#![tactic(auto, using(rf_jtree::proofs::StmtShows::stmt_shows))]
 
 ghost use Rattle.std.specs.Prelude.{◌↔◌, IsTrue, IfSome, option_map};
-ghost use Rattle.rf_jfit.specs.ExprFits.{ExprFits};
-ghost use Rattle.rf_jfit.specs.ExprShown.{expr_shown};
-ghost use Rattle.rf_jfit.specs.StmtFits.{MessageFits, StmtFits, BlockFits, StmtsFit, OtherFits, GroupFits, GroupsFit, CatchFits, CatchesFit, LastFits};
-ghost use Rattle.rf_jfit.specs.StmtShown.{message_shown, stmt_shown, block_shown, stmts_shown, other_shown, group_shown, groups_shown, catch_shown, catches_shown, last_shown};
+ghost use Rattle.rf_jtree.specs.ExprFits.{ExprFits};
+ghost use Rattle.rf_jtree.specs.ExprShown.{expr_shown};
+ghost use Rattle.rf_jtree.specs.StmtFits.{MessageFits, StmtFits, BlockFits, StmtsFit, OtherFits, GroupFits, GroupsFit, CatchFits, CatchesFit, LastFits};
+ghost use Rattle.rf_jtree.specs.StmtShown.{message_shown, stmt_shown, block_shown, stmts_shown, other_shown, group_shown, groups_shown, catch_shown, catches_shown, last_shown};
 
 use crate::expr_checks::{expr_fits, exprs_fit};
 use crate::name_checks::{are_braces, name_fits, type_fits};
@@ -13,9 +13,9 @@ use crate::stmt_form_checks::{
     is_switch, is_try, is_value, is_while,
 };
 use crate::variable_checks::{first_fits, local_fits};
-use rf_jfit::operators::{COLON, SEMICOLON};
-use rf_jfit::words::{ASSERT, ELSE, FINALLY, RETURN, SYNCHRONIZED, THROW};
 use rf_jfit::{is_key, is_no_local, is_op};
+use rf_jtree::keyword_names::{ASSERT, ELSE, FINALLY, RETURN, SYNCHRONIZED, THROW};
+use rf_jtree::operator_names::{COLON, SEMICOLON};
 use rf_jtree::{Block, Catch, Expr, Group, Stmt, Tok};
 
 fn expr_fits_or_none(expr: &Option<Expr>) -> bool
@@ -151,7 +151,7 @@ pub fn stmt_fits(stmt: &Stmt) -> bool
 
 /// Whether statements in braces fit.
 #[cycle(stmt)]
-#[tactic(auto, using(rf_jfit::proofs::StmtShows::block_shown_out))]
+#[tactic(auto, using(rf_jtree::proofs::StmtShows::block_shown_out))]
 pub fn block_fits(block: &Block) -> bool
     ensures { IsTrue result ↔ BlockFits (block_shown block.now) }
 {
@@ -180,7 +180,7 @@ fn other_fits(other: &Option<(Tok, Box<Stmt>)>) -> bool
 }
 
 #[cycle(stmt)]
-#[tactic(auto, using(rf_jfit::proofs::StmtShows::group_shown_out))]
+#[tactic(auto, using(rf_jtree::proofs::StmtShows::group_shown_out))]
 fn group_fits(group: &Group) -> bool
     ensures { IsTrue result ↔ GroupFits (group_shown group.now) }
 {
@@ -201,7 +201,7 @@ fn groups_fit(groups: &[Group]) -> bool
 }
 
 #[cycle(stmt)]
-#[tactic(auto, using(rf_jfit::proofs::StmtShows::catch_shown_out))]
+#[tactic(auto, using(rf_jtree::proofs::StmtShows::catch_shown_out))]
 fn catch_fits(part: &Catch) -> bool
     ensures { IsTrue result ↔ CatchFits (catch_shown part.now) }
 {

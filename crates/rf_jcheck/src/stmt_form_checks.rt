@@ -1,20 +1,20 @@
 ghost use Rattle.std.specs.Prelude.{◌↔◌, ◌⊎◌, IsTrue, IfSome, option_map};
-ghost use Rattle.rf_jfit.specs.ExprShown.{expr_shown, exprs_shown};
-ghost use Rattle.rf_jfit.specs.Kinds.{IsKey, IsIdent};
-ghost use Rattle.rf_jfit.specs.NameShown.{mods_shown};
-ghost use Rattle.rf_jfit.specs.StmtFits.{IsHead, IsLabel, IsValue, IsIf, IsWhile, IsDo, IsFor, IsEach, IsSwitch, IsGroupWord, IsJump, IsExit, IsCatch, IsTry};
-ghost use Rattle.rf_jfit.specs.StmtShown.{stmt_shown, other_shown, catches_shown, last_shown};
+ghost use Rattle.rf_jtree.specs.ExprShown.{expr_shown, exprs_shown};
+ghost use Rattle.rf_jtree.specs.Kinds.{IsKey, IsIdent};
+ghost use Rattle.rf_jtree.specs.NameShown.{mods_shown};
+ghost use Rattle.rf_jtree.specs.StmtFits.{IsHead, IsLabel, IsValue, IsIf, IsWhile, IsDo, IsFor, IsEach, IsSwitch, IsGroupWord, IsJump, IsExit, IsCatch, IsTry};
+ghost use Rattle.rf_jtree.specs.StmtShown.{stmt_shown, other_shown, catches_shown, last_shown};
 
 use crate::name_checks::{are_braces, are_parens};
 use crate::variable_checks::variable_mods_fit;
-use rf_jfit::operators::{COLON, SEMICOLON};
-use rf_jfit::words::{
-    BREAK, CASE, CATCH, CONTINUE, DEFAULT, DO, FINAL, FOR, IF, SWITCH, TRY, WHILE,
-};
 use rf_jfit::{
     are_statement_exprs, has_catch_or_last, is_ident, is_key, is_nearest_if, is_no_local, is_op,
     is_statement_expr,
 };
+use rf_jtree::keyword_names::{
+    BREAK, CASE, CATCH, CONTINUE, DEFAULT, DO, FINAL, FOR, IF, SWITCH, TRY, WHILE,
+};
+use rf_jtree::operator_names::{COLON, SEMICOLON};
 use rf_jtree::{Block, Catch, Expr, Kw, Many, Mod, Stmt, Tok};
 use rf_text::List;
 

@@ -1,15 +1,15 @@
 ghost use Rattle.std.specs.Prelude.{◌↔◌, IsTrue, IfSome, option_map};
-ghost use Rattle.rf_jfit.specs.DeclFits.{StarFits, NamesPackage, ImportFits, PackageFits, UnitFits};
-ghost use Rattle.rf_jfit.specs.DeclShown.{import_shown, imports_shown, package_shown, unit_shown};
-ghost use Rattle.rf_jfit.specs.Kinds.{IsOp};
-ghost use Rattle.rf_jfit.specs.NameFits.{EachFits};
-ghost use Rattle.rf_jfit.specs.NameShown.{name_shown};
+ghost use Rattle.rf_jtree.specs.DeclFits.{StarFits, NamesPackage, ImportFits, PackageFits, UnitFits};
+ghost use Rattle.rf_jtree.specs.DeclShown.{import_shown, imports_shown, package_shown, unit_shown};
+ghost use Rattle.rf_jtree.specs.Kinds.{IsOp};
+ghost use Rattle.rf_jtree.specs.NameFits.{EachFits};
+ghost use Rattle.rf_jtree.specs.NameShown.{name_shown};
 
 use crate::decl_checks::decl_fits;
 use crate::name_checks::name_fits;
-use rf_jfit::operators::{DOT, SEMICOLON, TIMES};
-use rf_jfit::words::{IMPORT, PACKAGE};
 use rf_jfit::{is_key, is_op};
+use rf_jtree::keyword_names::{IMPORT, PACKAGE};
+use rf_jtree::operator_names::{DOT, SEMICOLON, TIMES};
 use rf_jtree::{Import, Name, Tok, Unit};
 
 fn star_fits(star: &Option<(Tok, Tok)>) -> bool

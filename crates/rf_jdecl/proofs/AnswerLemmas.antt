@@ -3,7 +3,7 @@ use Rattle.std.proofs.Common.{◌≡◌, ℕ, List, Option, Result, Ok, Err, ref
 use Rattle.std.specs.Result.{IsErr, IsErrAnd}
 use Rattle.rf_jtree.specs.declared.decls.Unit.{Unit as File}
 use Rattle.rf_jtree.specs.declared.tokens.Tok.{Tok}
-use Rattle.rf_jfit.specs.DeclShown.{unit_shown}
+use Rattle.rf_jtree.specs.DeclShown.{unit_shown}
 use Rattle.rf_jexpr.specs.Gives.{Gives, GivesTree}
 use Rattle.rf_jexpr.specs.Reads.{and_then}
 use Rattle.rf_jexpr.specs.declared.found.Found.{Found}

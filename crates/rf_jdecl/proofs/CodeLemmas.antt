@@ -3,8 +3,8 @@ use Rattle.std.proofs.Common.{◌≡◌, ℕ, zero, suc, ◌+◌, ◌≤◌, ◌
 use Rattle.std.specs.List.{slice_get, list_all, list_any}
 use Rattle.std.proofs.lemmas.List.{map-append}
 use Rattle.rf_jtree.specs.declared.tokens.Tok.{Tok}
-use Rattle.rf_jfit.specs.declared.words.TheConstants.{CLASS, INTERFACE, THIS, SUPER}
-use Rattle.rf_jfit.specs.DeclTrees.{UnitTree}
+use Rattle.rf_jtree.specs.declared.keyword_names.TheConstants.{CLASS, INTERFACE, THIS, SUPER}
+use Rattle.rf_jtree.specs.DeclTrees.{UnitTree}
 use Rattle.rf_jexpr.specs.Reads.{Reads, is_key, begins, token, when}
 use Rattle.rf_jexpr.proofs.TurnLemmas.{IsAtTurn, first-turn, next-turn}
 use Rattle.rf_jstmt.specs.ModReads.{goes_on_with}

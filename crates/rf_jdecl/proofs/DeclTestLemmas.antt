@@ -2,13 +2,13 @@
 use Rattle.std.proofs.Common.{◌≡◌, ◌≢◌, List, [], ◌∷◌, Option, Some, None, Bool, true, false, is_some, is_none, not, ◌&&◌, ◌||◌, if◌then◌else◌, IsTrue, IsSome, IfSome, ◌⊎◌, inl, inr, refl}
 use Rattle.std.specs.List.{list_all}
 use Rattle.rf_jtree.specs.declared.tokens.Tok.{Tok}
-use Rattle.rf_jfit.specs.declared.words.TheConstants.{CLASS, INTERFACE, STATIC, THIS, SUPER}
-use Rattle.rf_jfit.specs.DeclFits.{has_word_of, is_semi, IsNeitherPrivateNorProtected, IsAccessOrAnnotation, CtorModsFit, ClassTakes, IsInterfaceMethod, IsInterfaceField, InterfaceTakes, IsOneName, IsClass, IsInterface, NamesPackage}
-use Rattle.rf_jfit.specs.DeclTrees.{BodyTree, MemberTree, Init, Ctor, Method, Field, TypeDeclTree}
-use Rattle.rf_jfit.specs.Kinds.{IsKey}
-use Rattle.rf_jfit.specs.NameFits.{ModsFit}
-use Rattle.rf_jfit.specs.NameTrees.{ManyTree, NameTree, ModTree, Word}
-use Rattle.rf_jfit.specs.StmtTrees.{VarTree}
+use Rattle.rf_jtree.specs.declared.keyword_names.TheConstants.{CLASS, INTERFACE, STATIC, THIS, SUPER}
+use Rattle.rf_jtree.specs.DeclFits.{has_word_of, is_semi, IsNeitherPrivateNorProtected, IsAccessOrAnnotation, CtorModsFit, ClassTakes, IsInterfaceMethod, IsInterfaceField, InterfaceTakes, IsOneName, IsClass, IsInterface, NamesPackage}
+use Rattle.rf_jtree.specs.DeclTrees.{BodyTree, MemberTree, Init, Ctor, Method, Field, TypeDeclTree}
+use Rattle.rf_jtree.specs.Kinds.{IsKey}
+use Rattle.rf_jtree.specs.NameFits.{ModsFit}
+use Rattle.rf_jtree.specs.NameTrees.{ManyTree, NameTree, ModTree, Word}
+use Rattle.rf_jtree.specs.StmtTrees.{VarTree}
 use Rattle.rf_jexpr.specs.Reads.{is_key}
 use Rattle.rf_jexpr.proofs.StopLemmas.{not_true, not_false}
 use Rattle.rf_jexpr.proofs.Tools.{both, and_true, is_key-IsKey, IsKey-is_key}

@@ -1,16 +1,16 @@
 -- Constructors are read where they stand, where statements are.
 use Rattle.std.proofs.Common.{◌≡◌, ℕ, ◌≤◌, max, List, [], ◌∷◌, ◌++◌, Option, Some, None, false, IfSome, refl, ◌∙◌, subst, arith, append_assoc}
 use Rattle.rf_jtree.specs.declared.tokens.Tok.{Tok}
-use Rattle.rf_jfit.specs.declared.operators.TheConstants.{LEFT_PAREN, LEFT_BRACE, RIGHT_BRACE, SEMICOLON}
-use Rattle.rf_jfit.specs.declared.words.TheConstants.{THROWS}
-use Rattle.rf_jfit.specs.DeclFits.{CtorCallFits, CtorModsFit, IsCtor}
-use Rattle.rf_jfit.specs.DeclTrees.{CtorCallTree, Ctor, ParamsTree, names_yield, params_yield, ctor_call_yield}
-use Rattle.rf_jfit.specs.ExprTrees.{args_yield, args_depth}
-use Rattle.rf_jfit.specs.Kinds.{IsOp}
-use Rattle.rf_jfit.specs.NameTrees.{ManyTree, NameTree, ModTree, option_yield, option_depth}
-use Rattle.rf_jfit.specs.StmtFits.{StmtsFit}
-use Rattle.rf_jfit.specs.StmtTrees.{StmtsTree, stmts_yield, stmts_depth}
-use Rattle.rf_jfit.specs.StmtShown.{stmts_tree}
+use Rattle.rf_jtree.specs.declared.operator_names.TheConstants.{LEFT_PAREN, LEFT_BRACE, RIGHT_BRACE, SEMICOLON}
+use Rattle.rf_jtree.specs.declared.keyword_names.TheConstants.{THROWS}
+use Rattle.rf_jtree.specs.DeclFits.{CtorCallFits, CtorModsFit, IsCtor}
+use Rattle.rf_jtree.specs.DeclTrees.{CtorCallTree, Ctor, ParamsTree, names_yield, params_yield, ctor_call_yield}
+use Rattle.rf_jtree.specs.ExprTrees.{args_yield, args_depth}
+use Rattle.rf_jtree.specs.Kinds.{IsOp}
+use Rattle.rf_jtree.specs.NameTrees.{ManyTree, NameTree, ModTree, option_yield, option_depth}
+use Rattle.rf_jtree.specs.StmtFits.{StmtsFit}
+use Rattle.rf_jtree.specs.StmtTrees.{StmtsTree, stmts_yield, stmts_depth}
+use Rattle.rf_jtree.specs.StmtShown.{stmts_tree}
 use Rattle.rf_jexpr.specs.Descent.{parsers}
 use Rattle.rf_jexpr.specs.PartReads.{args}
 use Rattle.rf_jexpr.specs.Reads.{is_op, is_key, is_ident, begins, optional}

@@ -2,13 +2,13 @@
 use Rattle.std.proofs.Common.{◌≡◌, List, [], ◌∷◌, ◌++◌, Option, Some, None, false, IfSome, refl, ◌∙◌, append_assoc}
 use Rattle.rf_jtree.specs.declared.tokens.Tok.{Tok}
 use Rattle.rf_jtree.specs.declared.words.Kw.{Kw}
-use Rattle.rf_jfit.specs.declared.operators.TheConstants.{LEFT_PAREN, RIGHT_PAREN, LEFT_BRACKET, COMMA, DOT, AT}
-use Rattle.rf_jfit.specs.declared.words.TheConstants.{PRIMITIVES, MODIFIERS}
-use Rattle.rf_jfit.specs.DeclFits.{NamesFit, ParamFits, ParamsFit}
-use Rattle.rf_jfit.specs.DeclTrees.{ParamTree, names_yield, param_yield, params_yield}
-use Rattle.rf_jfit.specs.Kinds.{IsOp, IsIdent, is_key_of}
-use Rattle.rf_jfit.specs.NameFits.{ManyFit, NameFits, TypeFits, ModsFit}
-use Rattle.rf_jfit.specs.NameTrees.{ManyTree, NameTree, TypeUseTree, name_yield, type_yield, dims_yield, mods_yield, many_yield, option_yield}
+use Rattle.rf_jtree.specs.declared.operator_names.TheConstants.{LEFT_PAREN, RIGHT_PAREN, LEFT_BRACKET, COMMA, DOT, AT}
+use Rattle.rf_jtree.specs.declared.keyword_names.TheConstants.{PRIMITIVES, MODIFIERS}
+use Rattle.rf_jtree.specs.DeclFits.{NamesFit, ParamFits, ParamsFit}
+use Rattle.rf_jtree.specs.DeclTrees.{ParamTree, names_yield, param_yield, params_yield}
+use Rattle.rf_jtree.specs.Kinds.{IsOp, IsIdent, is_key_of}
+use Rattle.rf_jtree.specs.NameFits.{ManyFit, NameFits, TypeFits, ModsFit}
+use Rattle.rf_jtree.specs.NameTrees.{ManyTree, NameTree, TypeUseTree, name_yield, type_yield, dims_yield, mods_yield, many_yield, option_yield}
 use Rattle.rf_jexpr.specs.NameReads.{name, named_type, type_base, type_use}
 use Rattle.rf_jexpr.specs.Reads.{is_op, is_key, is_ident, begins, optional, behind, separated}
 use Rattle.rf_jexpr.proofs.CompleteNames.{Anything, name-exact, dims-exact, type_use-exact, no_brackets}

@@ -2,15 +2,15 @@
 use Rattle.std.proofs.Common.{◌≡◌, ℕ, ◌≤◌, List, [], ◌∷◌, ◌++◌, Option, Some, None, false, IsTrue, IfSome, length, length-append, refl, ◌∙◌, arith, append_assoc}
 use Rattle.std.specs.List.{flat_map}
 use Rattle.rf_jtree.specs.declared.tokens.Tok.{Tok}
-use Rattle.rf_jfit.specs.declared.operators.TheConstants.{RIGHT_BRACE, SEMICOLON, COMMA, AT}
-use Rattle.rf_jfit.specs.declared.words.TheConstants.{STATIC, THROWS, VOID, MODIFIERS}
-use Rattle.rf_jfit.specs.DeclFits.{RetFits, BodyFits, IsCallable}
-use Rattle.rf_jfit.specs.DeclTrees.{RetTree, Void, Value, BodyTree, Block, MemberTree, Init, Ctor, Method, Field, ParamsTree, names_yield, params_yield, ctor_call_yield, ret_yield, body_yield, member_yield}
-use Rattle.rf_jfit.specs.Kinds.{IsOp, IsKey, is_key_of}
-use Rattle.rf_jfit.specs.NameFits.{EachFits, ManyFit, ModsFit, TypeFits}
-use Rattle.rf_jfit.specs.NameTrees.{ManyTree, NameTree, ModTree, TypeUseTree, mods_yield, many_yield, type_yield, option_yield, tok_yield, many_depth}
-use Rattle.rf_jfit.specs.StmtFits.{BlockFits, VarFits}
-use Rattle.rf_jfit.specs.StmtTrees.{BlockTree, Braces, VarTree, block_yield, stmts_yield, var_yield, var_depth}
+use Rattle.rf_jtree.specs.declared.operator_names.TheConstants.{RIGHT_BRACE, SEMICOLON, COMMA, AT}
+use Rattle.rf_jtree.specs.declared.keyword_names.TheConstants.{STATIC, THROWS, VOID, MODIFIERS}
+use Rattle.rf_jtree.specs.DeclFits.{RetFits, BodyFits, IsCallable}
+use Rattle.rf_jtree.specs.DeclTrees.{RetTree, Void, Value, BodyTree, Block, MemberTree, Init, Ctor, Method, Field, ParamsTree, names_yield, params_yield, ctor_call_yield, ret_yield, body_yield, member_yield}
+use Rattle.rf_jtree.specs.Kinds.{IsOp, IsKey, is_key_of}
+use Rattle.rf_jtree.specs.NameFits.{EachFits, ManyFit, ModsFit, TypeFits}
+use Rattle.rf_jtree.specs.NameTrees.{ManyTree, NameTree, ModTree, TypeUseTree, mods_yield, many_yield, type_yield, option_yield, tok_yield, many_depth}
+use Rattle.rf_jtree.specs.StmtFits.{BlockFits, VarFits}
+use Rattle.rf_jtree.specs.StmtTrees.{BlockTree, Braces, VarTree, block_yield, stmts_yield, var_yield, var_depth}
 use Rattle.rf_jexpr.specs.Descent.{parsers}
 use Rattle.rf_jexpr.specs.NameReads.{type_use}
 use Rattle.rf_jexpr.specs.Reads.{is_op, is_key, is_ident, begins, token, optional, behind}

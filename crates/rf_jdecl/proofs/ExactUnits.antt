@@ -3,13 +3,13 @@ use Rattle.std.proofs.Common.{◌≡◌, ℕ, ◌≤◌, List, [], ◌∷◌, �
 use Rattle.std.specs.List.{flat_map}
 use Rattle.rf_jtree.specs.declared.tokens.Tok.{Tok}
 use Rattle.rf_jtree.specs.declared.words.Kw.{Kw}
-use Rattle.rf_jfit.specs.declared.operators.TheConstants.{LEFT_BRACE, RIGHT_BRACE, SEMICOLON, DOT, TIMES}
-use Rattle.rf_jfit.specs.declared.words.TheConstants.{CLASS, EXTENDS, IMPLEMENTS, IMPORT, INTERFACE, PACKAGE, MODIFIERS}
-use Rattle.rf_jfit.specs.DeclFits.{NamesFit, MemberFits, IsClass, IsInterface, DeclFits, StarFits, ImportFits, PackageFits}
-use Rattle.rf_jfit.specs.DeclTrees.{MemberTree, TypeDeclTree, ImportTree, UnitTree, names_yield, member_yield, decl_yield, import_yield, package_yield, unit_yield, member_depth}
-use Rattle.rf_jfit.specs.Kinds.{IsOp, IsKey, IsIdent, has_key}
-use Rattle.rf_jfit.specs.NameFits.{EachFits, ModFits, NameFits}
-use Rattle.rf_jfit.specs.NameTrees.{ManyTree, NameTree, ModTree, Word, Mark, Suppress, name_yield, mod_yield, mods_yield, tok_yield, pair_yield, option_yield, list_depth}
+use Rattle.rf_jtree.specs.declared.operator_names.TheConstants.{LEFT_BRACE, RIGHT_BRACE, SEMICOLON, DOT, TIMES}
+use Rattle.rf_jtree.specs.declared.keyword_names.TheConstants.{CLASS, EXTENDS, IMPLEMENTS, IMPORT, INTERFACE, PACKAGE, MODIFIERS}
+use Rattle.rf_jtree.specs.DeclFits.{NamesFit, MemberFits, IsClass, IsInterface, DeclFits, StarFits, ImportFits, PackageFits}
+use Rattle.rf_jtree.specs.DeclTrees.{MemberTree, TypeDeclTree, ImportTree, UnitTree, names_yield, member_yield, decl_yield, import_yield, package_yield, unit_yield, member_depth}
+use Rattle.rf_jtree.specs.Kinds.{IsOp, IsKey, IsIdent, has_key}
+use Rattle.rf_jtree.specs.NameFits.{EachFits, ModFits, NameFits}
+use Rattle.rf_jtree.specs.NameTrees.{ManyTree, NameTree, ModTree, Word, Mark, Suppress, name_yield, mod_yield, mods_yield, tok_yield, pair_yield, option_yield, list_depth}
 use Rattle.rf_jexpr.specs.NameReads.{name}
 use Rattle.rf_jexpr.specs.Reads.{is_op, is_key, is_ident, begins, token, optional, behind, many}
 use Rattle.rf_jexpr.proofs.CompleteNames.{Anything}

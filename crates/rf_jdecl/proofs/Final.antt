@@ -2,8 +2,8 @@
 -- them.
 use Rattle.std.proofs.Common.{◌≡◌, ℕ, max, List, Some, None, refl, ap, ◌∙◌, sym, arith}
 use Rattle.rf_jtree.specs.declared.tokens.Tok.{Tok}
-use Rattle.rf_jfit.specs.DeclFits.{UnitFits}
-use Rattle.rf_jfit.specs.DeclTrees.{UnitTree, unit_yield, unit_depth}
+use Rattle.rf_jtree.specs.DeclFits.{UnitFits}
+use Rattle.rf_jtree.specs.DeclTrees.{UnitTree, unit_yield, unit_depth}
 use Rattle.rf_jstmt.specs.StmtReads.{stmt_parsers}
 use Rattle.rf_jstmt.proofs.Exact.{stmt_parsers-exact}
 use Rattle.rf_jstmt.proofs.ExactParts.{AreExactStmts}

@@ -6,16 +6,16 @@ use Rattle.rf_jtree.specs.declared.tokens.Tok.{Tok}
 use Rattle.rf_jtree.specs.declared.tokens.TokKind.{TokKind}
 use Rattle.rf_jtree.specs.declared.tokens.TokKind.TheVariants as kind
 use Rattle.rf_jtree.specs.declared.words.Kw.{Kw}
-use Rattle.rf_jfit.specs.declared.operators.TheConstants.{LEFT_PAREN, LEFT_BRACE, SEMICOLON, COMMA, DOT, AT}
-use Rattle.rf_jfit.specs.declared.words.TheConstants.{PRIMITIVES, MODIFIERS, STATIC, VOID}
-use Rattle.rf_jfit.specs.DeclFits.{ParamsFit}
-use Rattle.rf_jfit.specs.DeclTrees.{ParamsTree, params_yield}
-use Rattle.rf_jfit.specs.ExprTrees.{InitTree, init_yield}
-use Rattle.rf_jfit.specs.Kinds.{IsOp, IsKey, IsIdent, is_key_of, has_key}
-use Rattle.rf_jfit.specs.NameFits.{EachFits, ManyFit, BracketsFit, BaseFits, TypeFits, ModFits}
-use Rattle.rf_jfit.specs.NameTrees.{ManyTree, ModTree, Word, Mark, Suppress, TypeBaseTree, Prim, Named, TypeUseTree, base_yield, type_yield, dims_yield, pair_yield, tok_yield, mod_yield, mods_yield, option_yield, many_yield, behind_yield}
-use Rattle.rf_jfit.specs.StmtFits.{BeginningFits, VarFits}
-use Rattle.rf_jfit.specs.StmtTrees.{VarTree, var_yield}
+use Rattle.rf_jtree.specs.declared.operator_names.TheConstants.{LEFT_PAREN, LEFT_BRACE, SEMICOLON, COMMA, DOT, AT}
+use Rattle.rf_jtree.specs.declared.keyword_names.TheConstants.{PRIMITIVES, MODIFIERS, STATIC, VOID}
+use Rattle.rf_jtree.specs.DeclFits.{ParamsFit}
+use Rattle.rf_jtree.specs.DeclTrees.{ParamsTree, params_yield}
+use Rattle.rf_jtree.specs.ExprTrees.{InitTree, init_yield}
+use Rattle.rf_jtree.specs.Kinds.{IsOp, IsKey, IsIdent, is_key_of, has_key}
+use Rattle.rf_jtree.specs.NameFits.{EachFits, ManyFit, BracketsFit, BaseFits, TypeFits, ModFits}
+use Rattle.rf_jtree.specs.NameTrees.{ManyTree, ModTree, Word, Mark, Suppress, TypeBaseTree, Prim, Named, TypeUseTree, base_yield, type_yield, dims_yield, pair_yield, tok_yield, mod_yield, mods_yield, option_yield, many_yield, behind_yield}
+use Rattle.rf_jtree.specs.StmtFits.{BeginningFits, VarFits}
+use Rattle.rf_jtree.specs.StmtTrees.{VarTree, var_yield}
 use Rattle.rf_jexpr.specs.Reads.{is_op, is_key, is_ident, begins}
 use Rattle.rf_jexpr.proofs.StopLemmas.{false_or, false_and}
 use Rattle.rf_jexpr.proofs.Tools.{holds, fails, whether, and_true, bind-None, if-false, token-other, is_key-IsKey, IsOp-is_op, IsIdent-is_ident}

@@ -2,7 +2,7 @@
 use Rattle.std.proofs.Common.{◌≡◌, List, [], ◌∷◌, Bool, true, false, ◌||◌, ◌∙◌, refl, sym, ap}
 use Rattle.rf_jtree.specs.declared.tokens.Tok.{Tok}
 use Rattle.rf_jexpr.specs.Reads.{begins, is_key}
-use Rattle.rf_jfit.specs.declared.words.TheConstants.{CLASS, INTERFACE}
+use Rattle.rf_jtree.specs.declared.keyword_names.TheConstants.{CLASS, INTERFACE}
 use Rattle.rf_jdecl.specs.UnitReads.{begins_type}
 
 type_parts : (toks : List Tok) → begins (is_key CLASS) toks || begins (is_key INTERFACE) toks ≡ begins begins_type toks

@@ -2,8 +2,8 @@
 use Rattle.std.proofs.Common.{◌≡◌, ℕ, ◌+◌, ◌≤◌, ◌<◌, List, Some, Result, Ok, Err, IfOk, length, drop, length-drop, length-append, arith}
 use Rattle.rf_jtree.specs.declared.tokens.Tok.{Tok}
 use Rattle.rf_jtree.specs.declared.decls.Member.{Member}
-use Rattle.rf_jfit.specs.DeclShown.{member_shown}
-use Rattle.rf_jfit.specs.DeclTrees.{MemberTree, member_yield, member_depth}
+use Rattle.rf_jtree.specs.DeclShown.{member_shown}
+use Rattle.rf_jtree.specs.DeclTrees.{MemberTree, member_yield, member_depth}
 use Rattle.rf_jexpr.specs.declared.found.Found.{Found}
 use Rattle.rf_jexpr.specs.declared.parse_err.ParseErr.{ParseErr}
 use Rattle.rf_jexpr.specs.Gives.{GivesTree}

@@ -1,11 +1,11 @@
 -- No statement begins with `this(` or `super(`.
 use Rattle.std.proofs.Common.{◌≡◌, ℕ, zero, suc, List, ◌∷◌, Option, Some, None, Bool, true, false, ◌⊎◌, inl, inr, IsTrue, refl, ◌∙◌}
 use Rattle.rf_jtree.specs.declared.tokens.Tok.{Tok}
-use Rattle.rf_jfit.specs.declared.levels.TheConstants.{OR_OR_LEVEL}
-use Rattle.rf_jfit.specs.declared.operators.TheConstants.{LEFT_PAREN, LEFT_BRACKET, DOT, QUESTION, ASSIGNMENTS, PREFIXES, SUFFIXES}
-use Rattle.rf_jfit.specs.declared.words.TheConstants.{INSTANCEOF, SUPER, THIS}
-use Rattle.rf_jfit.specs.ExprTrees.{ExprTree, This}
-use Rattle.rf_jfit.specs.Kinds.{IsOp, IsKey, is_op_of, is_literal}
+use Rattle.rf_jtree.specs.declared.levels.TheConstants.{OR_OR_LEVEL}
+use Rattle.rf_jtree.specs.declared.operator_names.TheConstants.{LEFT_PAREN, LEFT_BRACKET, DOT, QUESTION, ASSIGNMENTS, PREFIXES, SUFFIXES}
+use Rattle.rf_jtree.specs.declared.keyword_names.TheConstants.{INSTANCEOF, SUPER, THIS}
+use Rattle.rf_jtree.specs.ExprTrees.{ExprTree, This}
+use Rattle.rf_jtree.specs.Kinds.{IsOp, IsKey, is_op_of, is_literal}
 use Rattle.rf_jexpr.specs.Descent.{step, postfix, cast, unary, takes_left, operation, operator, binary, choice, conditional, assignment, expr, nothing, with_room, parsers}
 use Rattle.rf_jexpr.specs.PartReads.{Parsers, sized}
 use Rattle.rf_jexpr.specs.PrimaryReads.{this_word, super_member, first_part, item, suffix, primary}

@@ -2,11 +2,11 @@
 use Rattle.std.proofs.Common.{Option, IfSome}
 use Rattle.rf_jtree.specs.declared.tokens.Tok.{Tok}
 use Rattle.rf_jtree.specs.declared.words.Kw.{Kw}
-use Rattle.rf_jfit.specs.declared.operators.TheConstants.{LEFT_PAREN, RIGHT_PAREN, COMMA}
-use Rattle.rf_jfit.specs.DeclFits.{NamesFit, ParamFits, ParamsFit}
-use Rattle.rf_jfit.specs.DeclTrees.{names_yield, param_yield, params_yield}
-use Rattle.rf_jfit.specs.NameFits.{NameFits, ModsFit}
-use Rattle.rf_jfit.specs.NameTrees.{ManyTree, NameTree, name_yield, mods_yield, many_yield, behind_yield}
+use Rattle.rf_jtree.specs.declared.operator_names.TheConstants.{LEFT_PAREN, RIGHT_PAREN, COMMA}
+use Rattle.rf_jtree.specs.DeclFits.{NamesFit, ParamFits, ParamsFit}
+use Rattle.rf_jtree.specs.DeclTrees.{names_yield, param_yield, params_yield}
+use Rattle.rf_jtree.specs.NameFits.{NameFits, ModsFit}
+use Rattle.rf_jtree.specs.NameTrees.{ManyTree, NameTree, name_yield, mods_yield, many_yield, behind_yield}
 use Rattle.rf_jexpr.specs.NameReads.{name, dims, type_use}
 use Rattle.rf_jexpr.specs.Reads.{is_op, is_key, is_ident, optional, behind, separated}
 use Rattle.rf_jexpr.proofs.LoopLemmas.{IsSound, separated-sound}

@@ -2,15 +2,15 @@
 use Rattle.std.proofs.Common.{◌≡◌, ℕ, ◌≤◌, List, ◌++◌, Option, Some, None, IfSome, arith}
 use Rattle.std.specs.List.{list_all, flat_map}
 use Rattle.rf_jtree.specs.declared.tokens.Tok.{Tok}
-use Rattle.rf_jfit.specs.declared.operators.TheConstants.{LEFT_BRACE, RIGHT_BRACE, SEMICOLON, COMMA}
-use Rattle.rf_jfit.specs.declared.words.TheConstants.{STATIC, THROWS, VOID}
-use Rattle.rf_jfit.specs.DeclFits.{CtorCallFits, RetFits, BodyFits, MemberFits}
-use Rattle.rf_jfit.specs.DeclTrees.{CtorCallTree, RetTree, Void, Value, BodyTree, Block, MemberTree, Init, Ctor, Method, Field, names_yield, params_yield, ctor_call_yield, ret_yield, body_yield, member_yield, body_depth, member_depth}
-use Rattle.rf_jfit.specs.ExprTrees.{args_depth}
-use Rattle.rf_jfit.specs.Kinds.{IsKey}
-use Rattle.rf_jfit.specs.NameFits.{EachFits, ModsFit, TypeFits}
-use Rattle.rf_jfit.specs.NameTrees.{ModTree, TypeUseTree, mods_yield, many_yield, type_yield, tok_yield, option_depth}
-use Rattle.rf_jfit.specs.StmtTrees.{var_yield}
+use Rattle.rf_jtree.specs.declared.operator_names.TheConstants.{LEFT_BRACE, RIGHT_BRACE, SEMICOLON, COMMA}
+use Rattle.rf_jtree.specs.declared.keyword_names.TheConstants.{STATIC, THROWS, VOID}
+use Rattle.rf_jtree.specs.DeclFits.{CtorCallFits, RetFits, BodyFits, MemberFits}
+use Rattle.rf_jtree.specs.DeclTrees.{CtorCallTree, RetTree, Void, Value, BodyTree, Block, MemberTree, Init, Ctor, Method, Field, names_yield, params_yield, ctor_call_yield, ret_yield, body_yield, member_yield, body_depth, member_depth}
+use Rattle.rf_jtree.specs.ExprTrees.{args_depth}
+use Rattle.rf_jtree.specs.Kinds.{IsKey}
+use Rattle.rf_jtree.specs.NameFits.{EachFits, ModsFit, TypeFits}
+use Rattle.rf_jtree.specs.NameTrees.{ModTree, TypeUseTree, mods_yield, many_yield, type_yield, tok_yield, option_depth}
+use Rattle.rf_jtree.specs.StmtTrees.{var_yield}
 use Rattle.rf_jexpr.specs.Descent.{parsers}
 use Rattle.rf_jexpr.specs.NameReads.{type_use}
 use Rattle.rf_jexpr.specs.PartReads.{args}

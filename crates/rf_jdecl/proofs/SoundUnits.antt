@@ -2,13 +2,13 @@
 use Rattle.std.proofs.Common.{◌≡◌, ℕ, ◌≤◌, List, [], ◌∷◌, ◌++◌, Some, IfSome, append-nil, refl, ap, ◌∙◌, arith}
 use Rattle.std.specs.List.{flat_map}
 use Rattle.rf_jtree.specs.declared.tokens.Tok.{Tok}
-use Rattle.rf_jfit.specs.declared.operators.TheConstants.{LEFT_BRACE, RIGHT_BRACE, SEMICOLON, DOT, TIMES}
-use Rattle.rf_jfit.specs.declared.words.TheConstants.{EXTENDS, IMPLEMENTS, IMPORT, PACKAGE}
-use Rattle.rf_jfit.specs.DeclFits.{NamesFit, MemberFits, DeclFits, StarFits, ImportFits, PackageFits, UnitFits}
-use Rattle.rf_jfit.specs.DeclTrees.{MemberTree, TypeDeclTree, UnitTree, names_yield, member_yield, decl_yield, import_yield, package_yield, unit_yield, member_depth, unit_depth}
-use Rattle.rf_jfit.specs.Kinds.{IsOp, IsIdent, AreBraces}
-use Rattle.rf_jfit.specs.NameFits.{EachFits, ModsFit}
-use Rattle.rf_jfit.specs.NameTrees.{name_yield, mods_yield, tok_yield, pair_yield, option_yield, list_depth}
+use Rattle.rf_jtree.specs.declared.operator_names.TheConstants.{LEFT_BRACE, RIGHT_BRACE, SEMICOLON, DOT, TIMES}
+use Rattle.rf_jtree.specs.declared.keyword_names.TheConstants.{EXTENDS, IMPLEMENTS, IMPORT, PACKAGE}
+use Rattle.rf_jtree.specs.DeclFits.{NamesFit, MemberFits, DeclFits, StarFits, ImportFits, PackageFits, UnitFits}
+use Rattle.rf_jtree.specs.DeclTrees.{MemberTree, TypeDeclTree, UnitTree, names_yield, member_yield, decl_yield, import_yield, package_yield, unit_yield, member_depth, unit_depth}
+use Rattle.rf_jtree.specs.Kinds.{IsOp, IsIdent, AreBraces}
+use Rattle.rf_jtree.specs.NameFits.{EachFits, ModsFit}
+use Rattle.rf_jtree.specs.NameTrees.{name_yield, mods_yield, tok_yield, pair_yield, option_yield, list_depth}
 use Rattle.rf_jexpr.specs.NameReads.{name}
 use Rattle.rf_jexpr.specs.Reads.{when, is_op, is_key, is_ident, token, optional, many}
 use Rattle.rf_jexpr.proofs.LoopLemmas.{Read, IsSound, many-sound}

@@ -5,13 +5,13 @@ use Rattle.rf_jtree.specs.declared.decls.Unit.{Unit as File}
 use Rattle.rf_jtree.specs.declared.names.Name.{Name}
 use Rattle.rf_jtree.specs.declared.stmts.Var.{Var}
 use Rattle.rf_jtree.specs.declared.tokens.Tok.{Tok}
-use Rattle.rf_jfit.specs.DeclShown.{param_shown, unit_shown}
-use Rattle.rf_jfit.specs.DeclTrees.{ParamTree, CtorCallTree, TypeDeclTree, UnitTree, member_depth}
-use Rattle.rf_jfit.specs.ExprTrees.{args_depth}
-use Rattle.rf_jfit.specs.NameShown.{name_shown}
-use Rattle.rf_jfit.specs.NameTrees.{NameTree, option_depth, list_depth}
-use Rattle.rf_jfit.specs.StmtShown.{var_shown}
-use Rattle.rf_jfit.specs.StmtTrees.{VarTree}
+use Rattle.rf_jtree.specs.DeclShown.{param_shown, unit_shown}
+use Rattle.rf_jtree.specs.DeclTrees.{ParamTree, CtorCallTree, TypeDeclTree, UnitTree, member_depth}
+use Rattle.rf_jtree.specs.ExprTrees.{args_depth}
+use Rattle.rf_jtree.specs.NameShown.{name_shown}
+use Rattle.rf_jtree.specs.NameTrees.{NameTree, option_depth, list_depth}
+use Rattle.rf_jtree.specs.StmtShown.{var_shown}
+use Rattle.rf_jtree.specs.StmtTrees.{VarTree}
 use Rattle.rf_jexpr.specs.declared.parse_err.ParseErr.{ParseErr}
 use Rattle.rf_jexpr.specs.declared.parse_err.ParseErr.TheVariants.{NoTree, Memory}
 

@@ -2,11 +2,11 @@
 use Rattle.std.specs.Prelude.{List, [], ◌∷◌, Option, Some, None, Bool, true, false, is_some, is_none, not, ◌&&◌, ◌||◌, if◌then◌else◌}
 use Rattle.std.specs.List.{list_all}
 use Rattle.rf_jtree.specs.declared.tokens.Tok.{Tok}
-use Rattle.rf_jfit.specs.declared.words.TheConstants.{ABSTRACT, CLASS, INTERFACE, NATIVE, PRIVATE, PROTECTED, STATIC}
-use Rattle.rf_jfit.specs.DeclFits.{has_word_of, is_semi}
-use Rattle.rf_jfit.specs.DeclTrees.{BodyTree, MemberTree, Init, Ctor, Method, Field, TypeDeclTree}
-use Rattle.rf_jfit.specs.NameTrees.{ManyTree, NameTree, ModTree}
-use Rattle.rf_jfit.specs.StmtTrees.{VarTree}
+use Rattle.rf_jtree.specs.declared.keyword_names.TheConstants.{ABSTRACT, CLASS, INTERFACE, NATIVE, PRIVATE, PROTECTED, STATIC}
+use Rattle.rf_jtree.specs.DeclFits.{has_word_of, is_semi}
+use Rattle.rf_jtree.specs.DeclTrees.{BodyTree, MemberTree, Init, Ctor, Method, Field, TypeDeclTree}
+use Rattle.rf_jtree.specs.NameTrees.{ManyTree, NameTree, ModTree}
+use Rattle.rf_jtree.specs.StmtTrees.{VarTree}
 use Rattle.rf_jexpr.specs.Reads.{is_key}
 
 unfoldable pub is_empty : {A : Type 0} → List A → Bool

@@ -2,9 +2,9 @@
 use Rattle.std.specs.Prelude.{◌≡◌, ℕ, ◌≤◌, List, Result, Ok, Err}
 use Rattle.rf_jtree.specs.declared.decls.Unit.{Unit as File}
 use Rattle.rf_jtree.specs.declared.tokens.Tok.{Tok}
-use Rattle.rf_jfit.specs.DeclFits.{UnitFits}
-use Rattle.rf_jfit.specs.DeclShown.{unit_shown}
-use Rattle.rf_jfit.specs.DeclTrees.{UnitTree, unit_yield, unit_depth}
+use Rattle.rf_jtree.specs.DeclFits.{UnitFits}
+use Rattle.rf_jtree.specs.DeclShown.{unit_shown}
+use Rattle.rf_jtree.specs.DeclTrees.{UnitTree, unit_yield, unit_depth}
 use Rattle.rf_jexpr.specs.declared.parse_err.ParseErr.{ParseErr}
 use Rattle.rf_jexpr.specs.declared.parse_err.ParseErr.TheVariants.{NoTree, Memory}
 use Rattle.rf_jdecl.specs.UnitReads.{ROOM}

@@ -2,9 +2,9 @@
 use Rattle.std.specs.Prelude.{List, Some, Bool, ◌&&◌}
 use Rattle.rf_jtree.specs.declared.tokens.Tok.{Tok}
 use Rattle.rf_jtree.specs.declared.words.Kw.{Kw}
-use Rattle.rf_jfit.specs.declared.operators.TheConstants.{LEFT_PAREN, RIGHT_PAREN, COMMA}
-use Rattle.rf_jfit.specs.DeclTrees.{ParamTree, ParamsTree}
-use Rattle.rf_jfit.specs.NameTrees.{ManyTree, NameTree, ModTree}
+use Rattle.rf_jtree.specs.declared.operator_names.TheConstants.{LEFT_PAREN, RIGHT_PAREN, COMMA}
+use Rattle.rf_jtree.specs.DeclTrees.{ParamTree, ParamsTree}
+use Rattle.rf_jtree.specs.NameTrees.{ManyTree, NameTree, ModTree}
 use Rattle.rf_jexpr.specs.NameReads.{name, dims, type_use}
 use Rattle.rf_jexpr.specs.Reads.{Reads, ◌>>=◌, when, is_op, is_key, is_ident, begins, token, optional, behind, separated}
 use Rattle.rf_jstmt.specs.ModReads.{mods, goes_on_with}

@@ -3,11 +3,11 @@
 use Rattle.std.specs.Prelude.{ℕ, List, Some, Bool, true, ◌&&◌, ◌||◌, if◌then◌else◌}
 use Rattle.std.specs.List.{list_all}
 use Rattle.rf_jtree.specs.declared.tokens.Tok.{Tok}
-use Rattle.rf_jfit.specs.declared.operators.TheConstants.{LEFT_BRACE, RIGHT_BRACE, SEMICOLON, COMMA}
-use Rattle.rf_jfit.specs.declared.words.TheConstants.{STATIC, SUPER, THIS, THROWS, VOID, ACCESSES}
-use Rattle.rf_jfit.specs.DeclTrees.{CtorCallTree, RetTree, Void, Value, BodyTree, Block, MemberTree, Init, Ctor, Method, Field}
-use Rattle.rf_jfit.specs.Kinds.{is_key_of}
-use Rattle.rf_jfit.specs.NameTrees.{ModTree, Word, TypeUseTree}
+use Rattle.rf_jtree.specs.declared.operator_names.TheConstants.{LEFT_BRACE, RIGHT_BRACE, SEMICOLON, COMMA}
+use Rattle.rf_jtree.specs.declared.keyword_names.TheConstants.{STATIC, SUPER, THIS, THROWS, VOID, ACCESSES}
+use Rattle.rf_jtree.specs.DeclTrees.{CtorCallTree, RetTree, Void, Value, BodyTree, Block, MemberTree, Init, Ctor, Method, Field}
+use Rattle.rf_jtree.specs.Kinds.{is_key_of}
+use Rattle.rf_jtree.specs.NameTrees.{ModTree, Word, TypeUseTree}
 use Rattle.rf_jexpr.specs.Descent.{parsers}
 use Rattle.rf_jexpr.specs.NameReads.{type_use}
 use Rattle.rf_jexpr.specs.PartReads.{args}

@@ -1,10 +1,10 @@
 -- The readers of types and of files. A file is read where all its tokens are.
 use Rattle.std.specs.Prelude.{ℕ, List, [], ◌∷◌, Option, Some, None, Bool, ◌||◌}
 use Rattle.rf_jtree.specs.declared.tokens.Tok.{Tok}
-use Rattle.rf_jfit.specs.declared.operators.TheConstants.{LEFT_BRACE, RIGHT_BRACE, SEMICOLON, DOT, TIMES}
-use Rattle.rf_jfit.specs.declared.words.TheConstants.{CLASS, EXTENDS, IMPLEMENTS, IMPORT, INTERFACE, PACKAGE}
-use Rattle.rf_jfit.specs.DeclTrees.{TypeDeclTree, ImportTree, UnitTree}
-use Rattle.rf_jfit.specs.NameTrees.{NameTree}
+use Rattle.rf_jtree.specs.declared.operator_names.TheConstants.{LEFT_BRACE, RIGHT_BRACE, SEMICOLON, DOT, TIMES}
+use Rattle.rf_jtree.specs.declared.keyword_names.TheConstants.{CLASS, EXTENDS, IMPLEMENTS, IMPORT, INTERFACE, PACKAGE}
+use Rattle.rf_jtree.specs.DeclTrees.{TypeDeclTree, ImportTree, UnitTree}
+use Rattle.rf_jtree.specs.NameTrees.{NameTree}
 use Rattle.rf_jexpr.specs.NameReads.{name}
 use Rattle.rf_jexpr.specs.Reads.{Reads, ◌>>=◌, when, is_op, is_key, is_ident, token, optional, many}
 use Rattle.rf_jdecl.specs.DeclTests.{decl_fits, names_package}

@@ -1,8 +1,8 @@
 ghost use Rattle.std.specs.Prelude.{◌≡◌, ◌≤◌, drop, length, option_map, IfOk};
 ghost use Rattle.std.specs.List.{list_all};
-ghost use Rattle.rf_jfit.specs.DeclShown.{ctor_call_shown, member_shown};
-ghost use Rattle.rf_jfit.specs.DeclTrees.{member_depth};
-ghost use Rattle.rf_jfit.specs.NameShown.{mod_shown, mods_shown};
+ghost use Rattle.rf_jtree.specs.DeclShown.{ctor_call_shown, member_shown};
+ghost use Rattle.rf_jtree.specs.DeclTrees.{member_depth};
+ghost use Rattle.rf_jtree.specs.NameShown.{mod_shown, mods_shown};
 ghost use Rattle.rf_jexpr.specs.Gives.{Gives, GivesTree, IsFound};
 ghost use Rattle.rf_jexpr.specs.Reads.{is_ident, when, token, optional};
 ghost use Rattle.rf_jdecl.specs.DeclMade.{call_depth, some_call_depth};
@@ -11,9 +11,9 @@ ghost use Rattle.rf_jdecl.specs.MemberReads.{calls_ctor, ctor_call, is_ctor_mod,
 use crate::heads::{params, some_names};
 use rf_jexpr::{Found, ParseErr, Taken, Want, args, attempt, deeper, is_at, take};
 use rf_jfit::is_key_of;
-use rf_jfit::operators::{LEFT_BRACE, RIGHT_BRACE, SEMICOLON};
-use rf_jfit::words::{ACCESSES, SUPER, THIS, THROWS};
 use rf_jstmt::stmts;
+use rf_jtree::keyword_names::{ACCESSES, SUPER, THIS, THROWS};
+use rf_jtree::operator_names::{LEFT_BRACE, RIGHT_BRACE, SEMICOLON};
 use rf_jtree::{CtorCall, Member, Mod, Tok};
 use rf_text::{List, Memory};
 use std::alloc::Global;

@@ -1,16 +1,16 @@
 ghost use Rattle.std.specs.Prelude.{◌≡◌, [], ◌∷◌, ◌&&◌, ◌||◌, not, is_none, option_map};
-ghost use Rattle.rf_jfit.specs.declared.words.TheConstants.{STATIC};
+ghost use Rattle.rf_jtree.specs.declared.keyword_names.TheConstants.{STATIC};
 ghost use Rattle.std.specs.List.{list_all};
-ghost use Rattle.rf_jfit.specs.DeclFits.{is_word_of, has_word_of, is_semi};
-ghost use Rattle.rf_jfit.specs.DeclShown.{names_shown, more_names_shown, body_shown, member_shown, members_shown, decl_shown};
-ghost use Rattle.rf_jfit.specs.NameShown.{many_shown, name_shown, mod_shown, mods_shown};
-ghost use Rattle.rf_jfit.specs.StmtShown.{var_shown, more_vars_shown};
+ghost use Rattle.rf_jtree.specs.DeclFits.{is_word_of, has_word_of, is_semi};
+ghost use Rattle.rf_jtree.specs.DeclShown.{names_shown, more_names_shown, body_shown, member_shown, members_shown, decl_shown};
+ghost use Rattle.rf_jtree.specs.NameShown.{many_shown, name_shown, mod_shown, mods_shown};
+ghost use Rattle.rf_jtree.specs.StmtShown.{var_shown, more_vars_shown};
 ghost use Rattle.rf_jexpr.specs.Reads.{is_key};
 ghost use Rattle.rf_jdecl.specs.DeclMade.{var_item_shown};
 ghost use Rattle.rf_jdecl.specs.DeclTests as test;
 
-use rf_jfit::words::{ABSTRACT, CLASS, INTERFACE, NATIVE, PRIVATE, PROTECTED, STATIC};
 use rf_jfit::{is_key, is_key_of};
+use rf_jtree::keyword_names::{ABSTRACT, CLASS, INTERFACE, NATIVE, PRIVATE, PROTECTED, STATIC};
 use rf_jtree::{Body, Kw, Many, Member, Mod, Name, Tok, TypeDecl, Var};
 
 // What classes and interfaces ask of their parts, as tests of what was read.

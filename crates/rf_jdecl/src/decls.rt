@@ -1,5 +1,5 @@
 ghost use Rattle.std.specs.Prelude.{◌≤◌, drop, length};
-ghost use Rattle.rf_jfit.specs.DeclShown.{decl_shown};
+ghost use Rattle.rf_jtree.specs.DeclShown.{decl_shown};
 ghost use Rattle.rf_jexpr.specs.Gives.{Gives, GivesTree};
 ghost use Rattle.rf_jexpr.specs.Reads.{token};
 ghost use Rattle.rf_jdecl.specs.DeclMade.{decl_depth};
@@ -9,8 +9,8 @@ use crate::decl_tests::decl_fits;
 use crate::heads::{fitting_mods, some_names};
 use crate::members::members;
 use rf_jexpr::{Found, ParseErr, Taken, Want, is_at, take};
-use rf_jfit::operators::{LEFT_BRACE, RIGHT_BRACE};
-use rf_jfit::words::{CLASS, EXTENDS, IMPLEMENTS, INTERFACE};
+use rf_jtree::keyword_names::{CLASS, EXTENDS, IMPLEMENTS, INTERFACE};
+use rf_jtree::operator_names::{LEFT_BRACE, RIGHT_BRACE};
 use rf_jtree::{Tok, TypeDecl};
 use std::alloc::Global;
 

@@ -1,13 +1,13 @@
 ghost use Rattle.std.specs.Prelude.{drop};
-ghost use Rattle.rf_jfit.specs.DeclShown.{member_shown};
-ghost use Rattle.rf_jfit.specs.DeclTrees.{member_depth};
-ghost use Rattle.rf_jfit.specs.NameShown.{mods_shown, type_shown};
+ghost use Rattle.rf_jtree.specs.DeclShown.{member_shown};
+ghost use Rattle.rf_jtree.specs.DeclTrees.{member_depth};
+ghost use Rattle.rf_jtree.specs.NameShown.{mods_shown, type_shown};
 ghost use Rattle.rf_jexpr.specs.Gives.{GivesTree};
 ghost use Rattle.rf_jdecl.specs.MemberReads.{field};
 
 use rf_jexpr::{Found, ParseErr, Want, take};
-use rf_jfit::operators::SEMICOLON;
 use rf_jstmt::vars;
+use rf_jtree::operator_names::SEMICOLON;
 use rf_jtree::{Member, Mod, Tok, TypeUse};
 use rf_text::List;
 use std::alloc::Global;

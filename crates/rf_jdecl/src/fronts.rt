@@ -1,6 +1,6 @@
 ghost use Rattle.std.specs.Prelude.{◌≡◌, ◌&&◌, drop};
-ghost use Rattle.rf_jfit.specs.declared.operators.TheConstants.{LEFT_BRACE};
-ghost use Rattle.rf_jfit.specs.declared.words.TheConstants.{STATIC};
+ghost use Rattle.rf_jtree.specs.declared.operator_names.TheConstants.{LEFT_BRACE};
+ghost use Rattle.rf_jtree.specs.declared.keyword_names.TheConstants.{STATIC};
 ghost use Rattle.rf_jexpr.specs.Gives.{passes};
 ghost use Rattle.rf_jexpr.specs.Reads.{begins, is_key, is_op};
 ghost use Rattle.rf_jstmt.specs.ModReads.{goes_on_with};
@@ -9,9 +9,9 @@ ghost use Rattle.rf_jdecl.specs.MemberReads.{begins_initializer};
 ghost use Rattle.rf_jdecl.specs.UnitReads.{begins_type};
 
 use rf_jexpr::{Want, is_at, tok_at};
-use rf_jfit::operators::{LEFT_BRACE, LEFT_PAREN};
-use rf_jfit::words::{CLASS, INTERFACE, STATIC};
 use rf_jtree::Tok;
+use rf_jtree::keyword_names::{CLASS, INTERFACE, STATIC};
+use rf_jtree::operator_names::{LEFT_BRACE, LEFT_PAREN};
 
 /// Whether the tokens begin with `class` or `interface`, as a type does behind its modifiers (JLS 8.1, 9.1).
 pub fn begins_type(t: &[Tok]) -> bool

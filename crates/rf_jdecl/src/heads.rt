@@ -1,7 +1,7 @@
 ghost use Rattle.std.specs.Prelude.{◌≤◌, ◌<◌, drop, length, option_map, IfOk};
-ghost use Rattle.rf_jfit.specs.DeclShown.{more_names_shown, names_shown, param_shown, more_params_shown, params_shown};
-ghost use Rattle.rf_jfit.specs.NameShown.{many_shown, name_shown, mods_shown};
-ghost use Rattle.rf_jfit.specs.declared.operators.TheConstants.{COMMA};
+ghost use Rattle.rf_jtree.specs.DeclShown.{more_names_shown, names_shown, param_shown, more_params_shown, params_shown};
+ghost use Rattle.rf_jtree.specs.NameShown.{many_shown, name_shown, mods_shown};
+ghost use Rattle.rf_jtree.specs.declared.operator_names.TheConstants.{COMMA};
 ghost use Rattle.rf_jexpr.specs.Gives.{Gives, IsTaken};
 ghost use Rattle.rf_jexpr.specs.NameReads.{name};
 ghost use Rattle.rf_jexpr.specs.Reads.{is_op, many, behind, separated, optional};
@@ -9,8 +9,8 @@ ghost use Rattle.rf_jdecl.specs.DeclMade.{name_item_shown, param_item_shown};
 ghost use Rattle.rf_jdecl.specs.HeadReads.{fitting_mods, names_behind, param, params};
 
 use rf_jexpr::{ParseErr, Taken, Want, attempt, dims, name, take, type_use};
-use rf_jfit::operators::{COMMA, LEFT_PAREN, RIGHT_PAREN};
 use rf_jstmt::{mods, mods_fit, variable_mods};
+use rf_jtree::operator_names::{COMMA, LEFT_PAREN, RIGHT_PAREN};
 use rf_jtree::{Kw, Many, Mod, Name, Param, Params, Tok};
 use rf_text::{List, Memory};
 use std::alloc::Global;

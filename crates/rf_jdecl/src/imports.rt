@@ -1,13 +1,13 @@
 ghost use Rattle.std.specs.Prelude.{◌≤◌, ◌<◌, drop, length, option_map, IfOk};
-ghost use Rattle.rf_jfit.specs.DeclShown.{import_shown, imports_shown, package_shown};
+ghost use Rattle.rf_jtree.specs.DeclShown.{import_shown, imports_shown, package_shown};
 ghost use Rattle.rf_jexpr.specs.Gives.{Gives, IsTaken};
 ghost use Rattle.rf_jexpr.specs.Reads.{many, optional};
 ghost use Rattle.rf_jdecl.specs.UnitReads.{on_demand, import_decl, package_clause};
 
 use crate::decl_tests::names_package;
 use rf_jexpr::{ParseErr, Taken, Want, attempt, name, take};
-use rf_jfit::operators::{DOT, SEMICOLON, TIMES};
-use rf_jfit::words::{IMPORT, PACKAGE};
+use rf_jtree::keyword_names::{IMPORT, PACKAGE};
+use rf_jtree::operator_names::{DOT, SEMICOLON, TIMES};
 use rf_jtree::{Import, Name, Tok};
 use rf_text::{List, Memory};
 use std::alloc::Global;

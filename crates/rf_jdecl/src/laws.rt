@@ -1,6 +1,6 @@
 ghost use Rattle.std.specs.Prelude.{◌≡◌};
-ghost use Rattle.rf_jfit.specs.DeclFits.{UnitFits};
-ghost use Rattle.rf_jfit.specs.DeclTrees.{UnitTree, unit_yield};
+ghost use Rattle.rf_jtree.specs.DeclFits.{UnitFits};
+ghost use Rattle.rf_jtree.specs.DeclTrees.{UnitTree, unit_yield};
 
 /// No two files that fit have the same tokens, however deep they are.
 pub fn files_have_one_tree()

@@ -1,14 +1,14 @@
 ghost use Rattle.std.specs.Prelude.{drop};
-ghost use Rattle.rf_jfit.specs.DeclShown.{body_shown, ret_shown, member_shown};
-ghost use Rattle.rf_jfit.specs.DeclTrees.{body_depth, member_depth};
-ghost use Rattle.rf_jfit.specs.NameShown.{mods_shown};
+ghost use Rattle.rf_jtree.specs.DeclShown.{body_shown, ret_shown, member_shown};
+ghost use Rattle.rf_jtree.specs.DeclTrees.{body_depth, member_depth};
+ghost use Rattle.rf_jtree.specs.NameShown.{mods_shown};
 ghost use Rattle.rf_jexpr.specs.Gives.{GivesTree};
 ghost use Rattle.rf_jdecl.specs.MemberReads.{body, method, void_method};
 
 use crate::heads::{params, some_names};
 use rf_jexpr::{Found, ParseErr, Want, is_at, take};
-use rf_jfit::operators::SEMICOLON;
-use rf_jfit::words::{THROWS, VOID};
+use rf_jtree::keyword_names::{THROWS, VOID};
+use rf_jtree::operator_names::SEMICOLON;
 use rf_jtree::{Body, Member, Mod, Ret, Tok};
 use rf_text::List;
 use std::alloc::Global;

@@ -2,11 +2,11 @@
 use Rattle.std.proofs.Common.{◌≡◌, ℕ, ◌≤◌, List, Result, Ok, Err, drop, length, refl, arith}
 use Rattle.rf_jtree.specs.declared.exprs.Expr.{Expr}
 use Rattle.rf_jtree.specs.declared.tokens.Tok.{Tok}
-use Rattle.rf_jfit.specs.ExprFits.{ExprFits, InitFits, ArgsFit}
-use Rattle.rf_jfit.specs.ExprShown.{expr_shown}
-use Rattle.rf_jfit.specs.ExprTrees.{expr_yield, expr_depth, init_yield, init_depth, args_yield, args_depth}
-use Rattle.rf_jfit.specs.NameFits.{NameFits, TypeFits}
-use Rattle.rf_jfit.specs.NameTrees.{name_yield, type_yield}
+use Rattle.rf_jtree.specs.ExprFits.{ExprFits, InitFits, ArgsFit}
+use Rattle.rf_jtree.specs.ExprShown.{expr_shown}
+use Rattle.rf_jtree.specs.ExprTrees.{expr_yield, expr_depth, init_yield, init_depth, args_yield, args_depth}
+use Rattle.rf_jtree.specs.NameFits.{NameFits, TypeFits}
+use Rattle.rf_jtree.specs.NameTrees.{name_yield, type_yield}
 use Rattle.rf_jexpr.specs.declared.found.Found.{Found}
 use Rattle.rf_jexpr.specs.declared.found.Taken.{Taken}
 use Rattle.rf_jexpr.specs.declared.parse_err.ParseErr.{ParseErr}

@@ -1,11 +1,11 @@
 -- Each reader of expressions leaves no more than it was given.
 use Rattle.std.proofs.Common.{ℕ, suc, List, [], ◌∷◌, None, refl}
 use Rattle.rf_jtree.specs.declared.tokens.Tok.{Tok}
-use Rattle.rf_jfit.specs.declared.operators.TheConstants.{LEFT_PAREN, RIGHT_PAREN, LEFT_BRACE, RIGHT_BRACE, LEFT_BRACKET, RIGHT_BRACKET, COMMA, DOT, QUESTION, COLON, ASSIGNMENTS, PREFIXES, SUFFIXES}
-use Rattle.rf_jfit.specs.declared.words.TheConstants.{NEW, SUPER, THIS, INSTANCEOF, PRIMITIVES}
-use Rattle.rf_jfit.specs.ExprTrees.{ExprTree}
-use Rattle.rf_jfit.specs.Kinds.{is_op_of, is_key_of, is_literal}
-use Rattle.rf_jfit.specs.NameTrees.{TypeBaseTree, Prim, Named}
+use Rattle.rf_jtree.specs.declared.operator_names.TheConstants.{LEFT_PAREN, RIGHT_PAREN, LEFT_BRACE, RIGHT_BRACE, LEFT_BRACKET, RIGHT_BRACKET, COMMA, DOT, QUESTION, COLON, ASSIGNMENTS, PREFIXES, SUFFIXES}
+use Rattle.rf_jtree.specs.declared.keyword_names.TheConstants.{NEW, SUPER, THIS, INSTANCEOF, PRIMITIVES}
+use Rattle.rf_jtree.specs.ExprTrees.{ExprTree}
+use Rattle.rf_jtree.specs.Kinds.{is_op_of, is_key_of, is_literal}
+use Rattle.rf_jtree.specs.NameTrees.{TypeBaseTree, Prim, Named}
 use Rattle.rf_jexpr.specs.Descent.{step, postfix, prefixed, cast, unary, takes_left, operation, instance, operator, binary, choice, conditional, assignment, expr, init, nothing, with_room}
 use Rattle.rf_jexpr.specs.NameReads.{name, brackets, dims, primitive, named_type, type_base, type_use}
 use Rattle.rf_jexpr.specs.PartReads.{Parsers, paren, args, sized, braces}

@@ -2,11 +2,11 @@
 use Rattle.std.proofs.Common.{◌≡◌, List, [], ◌∷◌, ◌++◌, refl, ap, ◌∙◌, sym, append_assoc}
 use Rattle.std.specs.List.{flat_map}
 use Rattle.rf_jtree.specs.declared.tokens.Tok.{Tok}
-use Rattle.rf_jfit.specs.declared.operators.TheConstants.{DOT}
-use Rattle.rf_jfit.specs.ExprTrees.{On, Name}
-use Rattle.rf_jfit.specs.Kinds.{IsOp, IsIdent}
-use Rattle.rf_jfit.specs.NameFits.{EachFits, NameFits}
-use Rattle.rf_jfit.specs.NameTrees.{NameTree, name_yield}
+use Rattle.rf_jtree.specs.declared.operator_names.TheConstants.{DOT}
+use Rattle.rf_jtree.specs.ExprTrees.{On, Name}
+use Rattle.rf_jtree.specs.Kinds.{IsOp, IsIdent}
+use Rattle.rf_jtree.specs.NameFits.{EachFits, NameFits}
+use Rattle.rf_jtree.specs.NameTrees.{NameTree, name_yield}
 use Rattle.rf_jexpr.specs.PrimaryReads.{front, last, called_on, called_id}
 
 -- a name, and one of the identifier alone

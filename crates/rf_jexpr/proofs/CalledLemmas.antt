@@ -1,7 +1,7 @@
 -- What a method of a name is called on, and its identifier, told from the end of the name.
 use Rattle.std.proofs.Common.{◌≡◌, List, [], ◌∷◌, ◌++◌, refl, ap}
 use Rattle.rf_jtree.specs.declared.tokens.Tok.{Tok}
-use Rattle.rf_jfit.specs.ExprTrees.{NoOn, On, Name}
+use Rattle.rf_jtree.specs.ExprTrees.{NoOn, On, Name}
 use Rattle.rf_jexpr.specs.PrimaryReads.{front, last, called_on, called_id}
 
 front-snoc : (item : Tok × Tok) (rest : List (Tok × Tok)) (end : Tok × Tok) → front item (rest ++ end ∷ []) ≡ item ∷ rest

@@ -5,16 +5,16 @@ use Rattle.rf_jtree.specs.declared.tokens.Tok.{Tok}
 use Rattle.rf_jtree.specs.declared.tokens.TokKind.{TokKind}
 use Rattle.rf_jtree.specs.declared.tokens.TokKind.TheVariants as kind
 use Rattle.rf_jtree.specs.declared.words.Kw.{Kw}
-use Rattle.rf_jfit.specs.declared.levels.TheConstants.{OR_OR_LEVEL}
-use Rattle.rf_jfit.specs.declared.operators.TheConstants.{LEFT_PAREN, RIGHT_PAREN, LEFT_BRACKET, RIGHT_BRACKET, DOT, QUESTION, ASSIGNMENTS, PREFIXES, SUFFIXES}
-use Rattle.rf_jfit.specs.declared.words.TheConstants.{INSTANCEOF, NEW, SUPER, THIS, PRIMITIVES}
-use Rattle.rf_jfit.specs.ExprFits.{ExprFits, ArgsFit, IsNoName}
-use Rattle.rf_jfit.specs.ExprTrees.{ExprTree, Assign, Cond, Binary, Instance, Unary, Cast, Postfix, Lit, This, Paren, Name, Call, Field, Super, New, Index, NewArray, NewInit}
-use Rattle.rf_jfit.specs.ExprTrees.{NoOn, On, ArgsTree, Args, expr_yield, args_yield}
-use Rattle.rf_jfit.specs.Kinds.{IsOp, IsKey, IsIdent, is_op_of, is_key_of, has_key, is_literal}
-use Rattle.rf_jfit.specs.Levels.{binary_level}
-use Rattle.rf_jfit.specs.NameFits.{NameFits}
-use Rattle.rf_jfit.specs.NameTrees.{NameTree, Prim, Named, TypeUseTree, name_yield}
+use Rattle.rf_jtree.specs.declared.levels.TheConstants.{OR_OR_LEVEL}
+use Rattle.rf_jtree.specs.declared.operator_names.TheConstants.{LEFT_PAREN, RIGHT_PAREN, LEFT_BRACKET, RIGHT_BRACKET, DOT, QUESTION, ASSIGNMENTS, PREFIXES, SUFFIXES}
+use Rattle.rf_jtree.specs.declared.keyword_names.TheConstants.{INSTANCEOF, NEW, SUPER, THIS, PRIMITIVES}
+use Rattle.rf_jtree.specs.ExprFits.{ExprFits, ArgsFit, IsNoName}
+use Rattle.rf_jtree.specs.ExprTrees.{ExprTree, Assign, Cond, Binary, Instance, Unary, Cast, Postfix, Lit, This, Paren, Name, Call, Field, Super, New, Index, NewArray, NewInit}
+use Rattle.rf_jtree.specs.ExprTrees.{NoOn, On, ArgsTree, Args, expr_yield, args_yield}
+use Rattle.rf_jtree.specs.Kinds.{IsOp, IsKey, IsIdent, is_op_of, is_key_of, has_key, is_literal}
+use Rattle.rf_jtree.specs.Levels.{binary_level}
+use Rattle.rf_jtree.specs.NameFits.{NameFits}
+use Rattle.rf_jtree.specs.NameTrees.{NameTree, Prim, Named, TypeUseTree, name_yield}
 use Rattle.rf_jexpr.specs.NameReads.{name, brackets, primitive, named_type, type_base, type_use}
 use Rattle.rf_jexpr.specs.Reads.{is_op, is_ident, begins, separated}
 use Rattle.rf_jexpr.proofs.CallNames.{with_member, alone, member-fits, member-tokens, dotted-tokens, item-tokens, alone-fits}

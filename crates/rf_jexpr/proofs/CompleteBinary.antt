@@ -2,14 +2,14 @@
 use Rattle.std.proofs.Common.{◌≡◌, ℕ, suc, ◌+◌, ◌≤◌, List, [], ◌∷◌, ◌++◌, Option, Some, None, false, IsTrue, ◌&&◌, nat_le, length, refl, ◌∙◌, arith, append_assoc}
 use Rattle.std.proofs.lemmas.Bool.{le-leb, lt-leb, leb-true}
 use Rattle.rf_jtree.specs.declared.tokens.Tok.{Tok}
-use Rattle.rf_jfit.specs.declared.levels.TheConstants.{OR_OR_LEVEL, COMPARISON_LEVEL, SHIFT_LEVEL, UNARY_LEVEL}
-use Rattle.rf_jfit.specs.declared.words.TheConstants.{INSTANCEOF}
-use Rattle.rf_jfit.specs.ExprFits.{ExprFits}
-use Rattle.rf_jfit.specs.ExprTrees.{ExprTree, Assign, Cond, Binary, Instance, expr_yield, expr_depth}
-use Rattle.rf_jfit.specs.Kinds.{IsKey}
-use Rattle.rf_jfit.specs.Levels.{BindsAt, binary_level, expr_level}
-use Rattle.rf_jfit.specs.NameFits.{TypeFits}
-use Rattle.rf_jfit.specs.NameTrees.{TypeUseTree, type_yield}
+use Rattle.rf_jtree.specs.declared.levels.TheConstants.{OR_OR_LEVEL, COMPARISON_LEVEL, SHIFT_LEVEL, UNARY_LEVEL}
+use Rattle.rf_jtree.specs.declared.keyword_names.TheConstants.{INSTANCEOF}
+use Rattle.rf_jtree.specs.ExprFits.{ExprFits}
+use Rattle.rf_jtree.specs.ExprTrees.{ExprTree, Assign, Cond, Binary, Instance, expr_yield, expr_depth}
+use Rattle.rf_jtree.specs.Kinds.{IsKey}
+use Rattle.rf_jtree.specs.Levels.{BindsAt, binary_level, expr_level}
+use Rattle.rf_jtree.specs.NameFits.{TypeFits}
+use Rattle.rf_jtree.specs.NameTrees.{TypeUseTree, type_yield}
 use Rattle.rf_jexpr.specs.Descent.{takes_left, operation, instance, operator, binary}
 use Rattle.rf_jexpr.specs.NameReads.{type_use}
 use Rattle.rf_jexpr.specs.PartReads.{Parsers}

@@ -2,17 +2,17 @@
 use Rattle.std.proofs.Common.{◌≡◌, ℕ, List, [], ◌∷◌, ◌++◌, Option, Some, None, false, IsTrue, length, refl, ap, ◌∙◌, sym, subst, arith, append_assoc, le_refl}
 use Rattle.rf_jtree.specs.declared.operators.Op.{Op}
 use Rattle.rf_jtree.specs.declared.tokens.Tok.{Tok}
-use Rattle.rf_jfit.specs.declared.levels.TheConstants.{POSTFIX_LEVEL}
-use Rattle.rf_jfit.specs.declared.operators.TheConstants.{LEFT_PAREN, RIGHT_PAREN, LEFT_BRACKET, DOT, SUFFIXES, OPERAND_OPERATORS}
-use Rattle.rf_jfit.specs.declared.words.TheConstants.{NEW, SUPER, THIS}
+use Rattle.rf_jtree.specs.declared.levels.TheConstants.{POSTFIX_LEVEL}
+use Rattle.rf_jtree.specs.declared.operator_names.TheConstants.{LEFT_PAREN, RIGHT_PAREN, LEFT_BRACKET, DOT, SUFFIXES, OPERAND_OPERATORS}
+use Rattle.rf_jtree.specs.declared.keyword_names.TheConstants.{NEW, SUPER, THIS}
 use Rattle.rf_jtree.specs.declared.words.Kw.{Kw}
-use Rattle.rf_jfit.specs.ExprFits.{ExprFits, begins_operand}
-use Rattle.rf_jfit.specs.ExprTrees.{ExprTree, Assign, Cond, Binary, Instance, Unary, Cast, Postfix, Lit, This, Paren, Name, Call, Field, Super, New, Index, NewArray, NewInit}
-use Rattle.rf_jfit.specs.ExprTrees.{NoOn, On, expr_yield, args_yield}
-use Rattle.rf_jfit.specs.Kinds.{IsOp, IsKey, IsIdent, AreParens, is_op_of, has_op, is_literal}
-use Rattle.rf_jfit.specs.Levels.{BindsAt}
-use Rattle.rf_jfit.specs.NameFits.{NameFits}
-use Rattle.rf_jfit.specs.NameTrees.{NameTree, name_yield, Prim}
+use Rattle.rf_jtree.specs.ExprFits.{ExprFits, begins_operand}
+use Rattle.rf_jtree.specs.ExprTrees.{ExprTree, Assign, Cond, Binary, Instance, Unary, Cast, Postfix, Lit, This, Paren, Name, Call, Field, Super, New, Index, NewArray, NewInit}
+use Rattle.rf_jtree.specs.ExprTrees.{NoOn, On, expr_yield, args_yield}
+use Rattle.rf_jtree.specs.Kinds.{IsOp, IsKey, IsIdent, AreParens, is_op_of, has_op, is_literal}
+use Rattle.rf_jtree.specs.Levels.{BindsAt}
+use Rattle.rf_jtree.specs.NameFits.{NameFits}
+use Rattle.rf_jtree.specs.NameTrees.{NameTree, name_yield, Prim}
 use Rattle.rf_jexpr.specs.Descent.{is_primitive, casts, cast}
 use Rattle.rf_jexpr.specs.NameReads.{type_use}
 use Rattle.rf_jexpr.specs.PartReads.{Parsers}

@@ -4,16 +4,16 @@ use Rattle.std.specs.List.{flat_map}
 use Rattle.std.proofs.lemmas.Bool.{le-leb}
 use Rattle.rf_jtree.specs.declared.names.Dims.{Dims}
 use Rattle.rf_jtree.specs.declared.tokens.Tok.{Tok}
-use Rattle.rf_jfit.specs.declared.operators.TheConstants.{LEFT_PAREN, LEFT_BRACKET, DOT}
-use Rattle.rf_jfit.specs.declared.levels.TheConstants.{ASSIGNMENT_LEVEL}
-use Rattle.rf_jfit.specs.declared.words.TheConstants.{NEW, SUPER, THIS}
-use Rattle.rf_jfit.specs.ExprFits.{ArgsFit, BracesFit, HasSize, HasBrackets, SizesFit, IsSuper}
-use Rattle.rf_jfit.specs.ExprShown.{sizes_tree, super_args_tree}
-use Rattle.rf_jfit.specs.ExprTrees.{ExprTree, Lit, This, Paren, Name, Call, Super, New, NewArray, NewInit, NoOn, On, ArgsTree, Args, NoArgs, SuperArgs, SizesTree, NoSizes, Sizes, BracesTree, Braces}
-use Rattle.rf_jfit.specs.ExprTrees.{expr_yield, args_yield, sizes_yield, braces_yield, on_depth, sizes_depth}
-use Rattle.rf_jfit.specs.Kinds.{IsOp, IsKey, IsIdent, AreParens, is_literal}
-use Rattle.rf_jfit.specs.NameFits.{EachFits, NameFits, BaseFits, DimsFit, BracketsFit}
-use Rattle.rf_jfit.specs.NameTrees.{NameTree, TypeBaseTree, Prim, Named, name_yield, base_yield, dims_yield, pair_yield}
+use Rattle.rf_jtree.specs.declared.operator_names.TheConstants.{LEFT_PAREN, LEFT_BRACKET, DOT}
+use Rattle.rf_jtree.specs.declared.levels.TheConstants.{ASSIGNMENT_LEVEL}
+use Rattle.rf_jtree.specs.declared.keyword_names.TheConstants.{NEW, SUPER, THIS}
+use Rattle.rf_jtree.specs.ExprFits.{ArgsFit, BracesFit, HasSize, HasBrackets, SizesFit, IsSuper}
+use Rattle.rf_jtree.specs.ExprShown.{sizes_tree, super_args_tree}
+use Rattle.rf_jtree.specs.ExprTrees.{ExprTree, Lit, This, Paren, Name, Call, Super, New, NewArray, NewInit, NoOn, On, ArgsTree, Args, NoArgs, SuperArgs, SizesTree, NoSizes, Sizes, BracesTree, Braces}
+use Rattle.rf_jtree.specs.ExprTrees.{expr_yield, args_yield, sizes_yield, braces_yield, on_depth, sizes_depth}
+use Rattle.rf_jtree.specs.Kinds.{IsOp, IsKey, IsIdent, AreParens, is_literal}
+use Rattle.rf_jtree.specs.NameFits.{EachFits, NameFits, BaseFits, DimsFit, BracketsFit}
+use Rattle.rf_jtree.specs.NameTrees.{NameTree, TypeBaseTree, Prim, Named, name_yield, base_yield, dims_yield, pair_yield}
 use Rattle.rf_jexpr.specs.NameReads.{dims}
 use Rattle.rf_jexpr.specs.PartReads.{Parsers, paren, args, sized}
 use Rattle.rf_jexpr.specs.PrimaryReads.{literal, this_word, super_member, new_class, has_brackets, new_filled, new_array, creation, called_on, called_id, named_call, named, first_part}

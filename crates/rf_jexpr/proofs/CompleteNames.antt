@@ -3,11 +3,11 @@ use Rattle.std.proofs.Common.{◌≡◌, ℕ, ◌-◌, ◌≤◌, List, [], ◌�
 use Rattle.std.specs.List.{flat_map}
 use Rattle.rf_jtree.specs.declared.names.Dims.{Dims}
 use Rattle.rf_jtree.specs.declared.tokens.Tok.{Tok}
-use Rattle.rf_jfit.specs.declared.operators.TheConstants.{DOT, LEFT_BRACKET, RIGHT_BRACKET}
-use Rattle.rf_jfit.specs.declared.words.TheConstants.{PRIMITIVES}
-use Rattle.rf_jfit.specs.Kinds.{IsOp, IsIdent, is_key_of}
-use Rattle.rf_jfit.specs.NameFits.{EachFits, NameFits, BracketsFit, DimsFit, BaseFits, TypeFits}
-use Rattle.rf_jfit.specs.NameTrees.{TypeBaseTree, Prim, Named, tok_yield, pair_yield, name_yield, dims_yield, base_yield, type_yield}
+use Rattle.rf_jtree.specs.declared.operator_names.TheConstants.{DOT, LEFT_BRACKET, RIGHT_BRACKET}
+use Rattle.rf_jtree.specs.declared.keyword_names.TheConstants.{PRIMITIVES}
+use Rattle.rf_jtree.specs.Kinds.{IsOp, IsIdent, is_key_of}
+use Rattle.rf_jtree.specs.NameFits.{EachFits, NameFits, BracketsFit, DimsFit, BaseFits, TypeFits}
+use Rattle.rf_jtree.specs.NameTrees.{TypeBaseTree, Prim, Named, tok_yield, pair_yield, name_yield, dims_yield, base_yield, type_yield}
 use Rattle.rf_jexpr.specs.NameReads.{name, brackets, dims, primitive, named_type, type_base, type_use}
 use Rattle.rf_jexpr.specs.Reads.{Reads, is_op, is_ident, begins, token, many, behind, separated}
 use Rattle.rf_jexpr.proofs.Bounded.{brackets-bounded}

@@ -3,15 +3,15 @@ use Rattle.std.proofs.Common.{◌≡◌, ℕ, ◌≤◌, List, [], ◌∷◌, �
 use Rattle.std.specs.List.{flat_map}
 use Rattle.rf_jtree.specs.declared.operators.Op.{Op}
 use Rattle.rf_jtree.specs.declared.tokens.Tok.{Tok}
-use Rattle.rf_jfit.specs.declared.levels.TheConstants.{ASSIGNMENT_LEVEL, CONDITIONAL_LEVEL, OR_OR_LEVEL, UNARY_LEVEL}
-use Rattle.rf_jfit.specs.declared.operators.TheConstants.{LEFT_PAREN, RIGHT_PAREN, LEFT_BRACE, RIGHT_BRACE, LEFT_BRACKET, RIGHT_BRACKET, COMMA, PREFIXES}
-use Rattle.rf_jfit.specs.ExprFits.{ExprsFit, MoreExprsFit, SizesFit, InitsFit, MoreInitsFit}
-use Rattle.rf_jfit.specs.ExprShown.{more_exprs_tree, more_inits_tree, sizes_tree}
-use Rattle.rf_jfit.specs.ExprTrees.{ExprTree, Paren, Args, ExprsTree, NoExprs, Exprs, MoreExprsTree, NoMoreExprs, MoreExprs, SizesTree, NoSizes, Sizes, InitTree, BracesTree, Braces, InitsTree, NoInits, Inits, MoreInitsTree, NoMoreInits, MoreInits}
-use Rattle.rf_jfit.specs.ExprTrees.{expr_yield, args_yield, exprs_yield, sizes_yield, init_yield, braces_yield, inits_yield, exprs_depth, more_exprs_depth, sizes_depth, inits_depth, more_inits_depth}
-use Rattle.rf_jfit.specs.Kinds.{IsOp, AreBrackets, AreParens, has_op}
-use Rattle.rf_jfit.specs.NameFits.{EachFits, ManyFit}
-use Rattle.rf_jfit.specs.NameTrees.{ManyTree, many_yield, option_yield}
+use Rattle.rf_jtree.specs.declared.levels.TheConstants.{ASSIGNMENT_LEVEL, CONDITIONAL_LEVEL, OR_OR_LEVEL, UNARY_LEVEL}
+use Rattle.rf_jtree.specs.declared.operator_names.TheConstants.{LEFT_PAREN, RIGHT_PAREN, LEFT_BRACE, RIGHT_BRACE, LEFT_BRACKET, RIGHT_BRACKET, COMMA, PREFIXES}
+use Rattle.rf_jtree.specs.ExprFits.{ExprsFit, MoreExprsFit, SizesFit, InitsFit, MoreInitsFit}
+use Rattle.rf_jtree.specs.ExprShown.{more_exprs_tree, more_inits_tree, sizes_tree}
+use Rattle.rf_jtree.specs.ExprTrees.{ExprTree, Paren, Args, ExprsTree, NoExprs, Exprs, MoreExprsTree, NoMoreExprs, MoreExprs, SizesTree, NoSizes, Sizes, InitTree, BracesTree, Braces, InitsTree, NoInits, Inits, MoreInitsTree, NoMoreInits, MoreInits}
+use Rattle.rf_jtree.specs.ExprTrees.{expr_yield, args_yield, exprs_yield, sizes_yield, init_yield, braces_yield, inits_yield, exprs_depth, more_exprs_depth, sizes_depth, inits_depth, more_inits_depth}
+use Rattle.rf_jtree.specs.Kinds.{IsOp, AreBrackets, AreParens, has_op}
+use Rattle.rf_jtree.specs.NameFits.{EachFits, ManyFit}
+use Rattle.rf_jtree.specs.NameTrees.{ManyTree, many_yield, option_yield}
 use Rattle.rf_jexpr.specs.PartReads.{Parsers, paren, exprs_of, args, sized, inits_of, braces}
 use Rattle.rf_jexpr.specs.Reads.{Reads, and_then, is_op, begins, optional, behind, separated}
 use Rattle.rf_jexpr.specs.Stops.{stops, Stops}

@@ -3,15 +3,15 @@ use Rattle.std.proofs.Common.{◌≡◌, ℕ, suc, ◌≤◌, List, [], ◌∷�
 use Rattle.std.proofs.lemmas.Bool.{le-leb}
 use Rattle.rf_jtree.specs.declared.operators.Op.{Op}
 use Rattle.rf_jtree.specs.declared.tokens.Tok.{Tok}
-use Rattle.rf_jfit.specs.declared.levels.TheConstants.{ASSIGNMENT_LEVEL, PRIMARY_LEVEL}
-use Rattle.rf_jfit.specs.declared.operators.TheConstants.{LEFT_PAREN, LEFT_BRACKET, DOT}
-use Rattle.rf_jfit.specs.ExprFits.{ExprFits, ArgsFit, IsNoName, IsNoNewArray}
-use Rattle.rf_jfit.specs.ExprTrees.{ExprTree, Assign, Cond, Binary, Instance, Unary, Cast, Postfix, Lit, This, Paren, Name, Call, Field, Super, New, Index, NewArray, NewInit}
-use Rattle.rf_jfit.specs.ExprTrees.{NoOn, On, ArgsTree, NoArgs, SuperArgs, SizesTree, BracesTree, expr_yield, args_yield, sizes_yield, braces_yield, expr_depth, args_depth}
-use Rattle.rf_jfit.specs.Kinds.{IsOp, IsIdent, AreBrackets}
-use Rattle.rf_jfit.specs.Levels.{BindsAt}
+use Rattle.rf_jtree.specs.declared.levels.TheConstants.{ASSIGNMENT_LEVEL, PRIMARY_LEVEL}
+use Rattle.rf_jtree.specs.declared.operator_names.TheConstants.{LEFT_PAREN, LEFT_BRACKET, DOT}
+use Rattle.rf_jtree.specs.ExprFits.{ExprFits, ArgsFit, IsNoName, IsNoNewArray}
+use Rattle.rf_jtree.specs.ExprTrees.{ExprTree, Assign, Cond, Binary, Instance, Unary, Cast, Postfix, Lit, This, Paren, Name, Call, Field, Super, New, Index, NewArray, NewInit}
+use Rattle.rf_jtree.specs.ExprTrees.{NoOn, On, ArgsTree, NoArgs, SuperArgs, SizesTree, BracesTree, expr_yield, args_yield, sizes_yield, braces_yield, expr_depth, args_depth}
+use Rattle.rf_jtree.specs.Kinds.{IsOp, IsIdent, AreBrackets}
+use Rattle.rf_jtree.specs.Levels.{BindsAt}
 use Rattle.rf_jtree.specs.declared.names.Dims.{Dims}
-use Rattle.rf_jfit.specs.NameTrees.{TypeBaseTree, name_yield, base_yield, dims_yield}
+use Rattle.rf_jtree.specs.NameTrees.{TypeBaseTree, name_yield, base_yield, dims_yield}
 use Rattle.rf_jexpr.specs.PartReads.{Parsers, sized}
 use Rattle.rf_jexpr.specs.PrimaryReads.{first_part, member_call, is_no_name, field, member, is_no_new_array, item, suffix, primary}
 use Rattle.rf_jexpr.specs.Reads.{or_else, is_op, is_ident, begins}

@@ -2,11 +2,11 @@
 use Rattle.std.proofs.Common.{◌≡◌, ℕ, zero, suc, ◌+◌, ◌≤◌, List, ◌∷◌, ◌++◌, Option, Some, None, false, IsTrue, ◌==◌, length, refl, ◌∙◌, arith, le_refl}
 use Rattle.rf_jtree.specs.declared.operators.Op.{Op}
 use Rattle.rf_jtree.specs.declared.tokens.Tok.{Tok}
-use Rattle.rf_jfit.specs.declared.levels.TheConstants.{ASSIGNMENT_LEVEL, CONDITIONAL_LEVEL, UNARY_LEVEL}
-use Rattle.rf_jfit.specs.declared.operators.TheConstants.{LEFT_PAREN, LEFT_BRACE, PREFIXES}
-use Rattle.rf_jfit.specs.ExprFits.{ExprFits, BracesFit}
-use Rattle.rf_jfit.specs.ExprTrees.{ExprTree, Lit, InitTree, Value, Braced, BracesTree, Braces, expr_yield, init_yield, braces_yield, expr_depth, braces_depth}
-use Rattle.rf_jfit.specs.Kinds.{IsOp, is_op_of, has_op}
+use Rattle.rf_jtree.specs.declared.levels.TheConstants.{ASSIGNMENT_LEVEL, CONDITIONAL_LEVEL, UNARY_LEVEL}
+use Rattle.rf_jtree.specs.declared.operator_names.TheConstants.{LEFT_PAREN, LEFT_BRACE, PREFIXES}
+use Rattle.rf_jtree.specs.ExprFits.{ExprFits, BracesFit}
+use Rattle.rf_jtree.specs.ExprTrees.{ExprTree, Lit, InitTree, Value, Braced, BracesTree, Braces, expr_yield, init_yield, braces_yield, expr_depth, braces_depth}
+use Rattle.rf_jtree.specs.Kinds.{IsOp, is_op_of, has_op}
 use Rattle.rf_jexpr.specs.Descent.{cast, postfix, unary, binary, conditional, expr, init, nothing, with_room, parsers}
 use Rattle.rf_jexpr.specs.NameReads.{name}
 use Rattle.rf_jexpr.specs.PartReads.{Parsers}

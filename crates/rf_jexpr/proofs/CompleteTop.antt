@@ -2,12 +2,12 @@
 use Rattle.std.proofs.Common.{◌≡◌, ℕ, suc, ◌≤◌, List, ◌∷◌, ◌++◌, Option, Some, None, IsTrue, length, refl, ap, ◌∙◌, arith, append_assoc, le_refl}
 use Rattle.std.proofs.lemmas.Bool.{le-leb}
 use Rattle.rf_jtree.specs.declared.tokens.Tok.{Tok}
-use Rattle.rf_jfit.specs.declared.levels.TheConstants.{ASSIGNMENT_LEVEL, CONDITIONAL_LEVEL, OR_OR_LEVEL}
-use Rattle.rf_jfit.specs.declared.operators.TheConstants.{QUESTION, COLON, ASSIGNMENTS}
-use Rattle.rf_jfit.specs.ExprFits.{ExprFits, IsLeftSide}
-use Rattle.rf_jfit.specs.ExprTrees.{ExprTree, Assign, Cond, Binary, Name, Field, Super, Index, NoArgs, SuperArgs, expr_yield, expr_depth}
-use Rattle.rf_jfit.specs.Kinds.{IsOp, is_op_of}
-use Rattle.rf_jfit.specs.Levels.{BindsAt, binary_level}
+use Rattle.rf_jtree.specs.declared.levels.TheConstants.{ASSIGNMENT_LEVEL, CONDITIONAL_LEVEL, OR_OR_LEVEL}
+use Rattle.rf_jtree.specs.declared.operator_names.TheConstants.{QUESTION, COLON, ASSIGNMENTS}
+use Rattle.rf_jtree.specs.ExprFits.{ExprFits, IsLeftSide}
+use Rattle.rf_jtree.specs.ExprTrees.{ExprTree, Assign, Cond, Binary, Name, Field, Super, Index, NoArgs, SuperArgs, expr_yield, expr_depth}
+use Rattle.rf_jtree.specs.Kinds.{IsOp, is_op_of}
+use Rattle.rf_jtree.specs.Levels.{BindsAt, binary_level}
 use Rattle.rf_jexpr.specs.Descent.{choice, conditional, is_left_side, assignment, expr}
 use Rattle.rf_jexpr.specs.PartReads.{Parsers}
 use Rattle.rf_jexpr.specs.Reads.{◌>>=◌, or_else, is_op}

@@ -2,14 +2,14 @@
 use Rattle.std.proofs.Common.{◌≡◌, ℕ, suc, ◌≤◌, List, [], ◌∷◌, ◌++◌, Option, Some, None, false, IsTrue, length, refl, ap, ◌∙◌, sym, subst, arith, append_assoc, le_refl}
 use Rattle.std.proofs.lemmas.Bool.{le-leb}
 use Rattle.rf_jtree.specs.declared.tokens.Tok.{Tok}
-use Rattle.rf_jfit.specs.declared.levels.TheConstants.{UNARY_LEVEL, POSTFIX_LEVEL, PRIMARY_LEVEL}
-use Rattle.rf_jfit.specs.declared.operators.TheConstants.{LEFT_PAREN, RIGHT_PAREN, LEFT_BRACKET, DOT, PREFIXES, SUFFIXES}
-use Rattle.rf_jfit.specs.ExprFits.{ExprFits, IsCast, CastTakes, BeginsOperand, begins_operand}
-use Rattle.rf_jfit.specs.ExprTrees.{ExprTree, Binary, Unary, Cast, Postfix, expr_yield, expr_depth}
-use Rattle.rf_jfit.specs.Kinds.{IsOp, AreParens, is_op_of}
-use Rattle.rf_jfit.specs.Levels.{BindsAt}
-use Rattle.rf_jfit.specs.NameFits.{TypeFits}
-use Rattle.rf_jfit.specs.NameTrees.{TypeBaseTree, Prim, Named, TypeUseTree, type_yield}
+use Rattle.rf_jtree.specs.declared.levels.TheConstants.{UNARY_LEVEL, POSTFIX_LEVEL, PRIMARY_LEVEL}
+use Rattle.rf_jtree.specs.declared.operator_names.TheConstants.{LEFT_PAREN, RIGHT_PAREN, LEFT_BRACKET, DOT, PREFIXES, SUFFIXES}
+use Rattle.rf_jtree.specs.ExprFits.{ExprFits, IsCast, CastTakes, BeginsOperand, begins_operand}
+use Rattle.rf_jtree.specs.ExprTrees.{ExprTree, Binary, Unary, Cast, Postfix, expr_yield, expr_depth}
+use Rattle.rf_jtree.specs.Kinds.{IsOp, AreParens, is_op_of}
+use Rattle.rf_jtree.specs.Levels.{BindsAt}
+use Rattle.rf_jtree.specs.NameFits.{TypeFits}
+use Rattle.rf_jtree.specs.NameTrees.{TypeBaseTree, Prim, Named, TypeUseTree, type_yield}
 use Rattle.rf_jexpr.specs.Descent.{step, postfix, prefixed, is_primitive, casts, cast, unary}
 use Rattle.rf_jexpr.specs.PartReads.{Parsers}
 use Rattle.rf_jexpr.specs.Reads.{◌>>=◌, or_else, is_op, begins}

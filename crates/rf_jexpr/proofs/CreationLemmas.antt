@@ -1,12 +1,12 @@
 -- The reader of what begins with `new` reads the longest creation.
 use Rattle.std.proofs.Common.{◌≡◌, ℕ, zero, suc, ◌<◌, ◌-◌, ◌≤◌, List, [], ◌∷◌, ◌++◌, Some, None, length, refl, ap, sym, subst, append_assoc, arith, le_refl}
 use Rattle.rf_jtree.specs.declared.tokens.Tok.{Tok}
-use Rattle.rf_jfit.specs.declared.words.TheConstants.{NEW}
-use Rattle.rf_jfit.specs.ExprFits.{ExprFits}
-use Rattle.rf_jfit.specs.ExprShown.{sizes_tree}
-use Rattle.rf_jfit.specs.ExprTrees.{ExprTree, New, NewArray, NewInit, expr_yield, expr_depth, args_yield}
-use Rattle.rf_jfit.specs.Kinds.{IsKey}
-use Rattle.rf_jfit.specs.NameTrees.{TypeBaseTree, Prim, Named, name_yield}
+use Rattle.rf_jtree.specs.declared.keyword_names.TheConstants.{NEW}
+use Rattle.rf_jtree.specs.ExprFits.{ExprFits}
+use Rattle.rf_jtree.specs.ExprShown.{sizes_tree}
+use Rattle.rf_jtree.specs.ExprTrees.{ExprTree, New, NewArray, NewInit, expr_yield, expr_depth, args_yield}
+use Rattle.rf_jtree.specs.Kinds.{IsKey}
+use Rattle.rf_jtree.specs.NameTrees.{TypeBaseTree, Prim, Named, name_yield}
 use Rattle.rf_jexpr.specs.Descent.{parsers, creations}
 use Rattle.rf_jexpr.specs.Longest.{IsCreation, CreationFits}
 use Rattle.rf_jexpr.specs.NameReads.{dims, type_base}

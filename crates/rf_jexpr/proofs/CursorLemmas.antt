@@ -4,7 +4,7 @@ use Rattle.std.specs.List.{slice_get}
 use Rattle.rf_jtree.specs.declared.operators.Op.{Op}
 use Rattle.rf_jtree.specs.declared.tokens.Tok.{Tok}
 use Rattle.rf_jtree.specs.declared.words.Kw.{Kw}
-use Rattle.rf_jfit.specs.Kinds.{IsOp, IsKey, IsIdent}
+use Rattle.rf_jtree.specs.Kinds.{IsOp, IsKey, IsIdent}
 use Rattle.rf_jexpr.specs.Reads.{is_op, is_key, is_ident, begins, token, when}
 use Rattle.rf_jexpr.proofs.Tools.{is_op-IsOp, IsOp-is_op, is_key-IsKey, IsKey-is_key, is_ident-IsIdent, IsIdent-is_ident}
 

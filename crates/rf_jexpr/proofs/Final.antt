@@ -2,10 +2,10 @@
 use Rattle.std.proofs.Common.{◌≡◌, ℕ, ◌≤◌, max, List, [], ◌++◌, Some, None, Ok, IsTrue, drop, length, length-drop, refl, ap, ◌∙◌, sym, arith}
 use Rattle.rf_jtree.specs.declared.exprs.Expr.{Expr}
 use Rattle.rf_jtree.specs.declared.tokens.Tok.{Tok}
-use Rattle.rf_jfit.specs.declared.levels.TheConstants.{ASSIGNMENT_LEVEL}
-use Rattle.rf_jfit.specs.ExprFits.{ExprFits}
-use Rattle.rf_jfit.specs.ExprShown.{expr_shown}
-use Rattle.rf_jfit.specs.ExprTrees.{ExprTree, expr_yield, expr_depth}
+use Rattle.rf_jtree.specs.declared.levels.TheConstants.{ASSIGNMENT_LEVEL}
+use Rattle.rf_jtree.specs.ExprFits.{ExprFits}
+use Rattle.rf_jtree.specs.ExprShown.{expr_shown}
+use Rattle.rf_jtree.specs.ExprTrees.{ExprTree, expr_yield, expr_depth}
 use Rattle.rf_jfit.proofs.ExprFirstLemmas.{expr_begins}
 use Rattle.rf_jexpr.specs.Descent.{parsers}
 use Rattle.rf_jexpr.specs.Reads.{begins}

@@ -4,15 +4,15 @@ use Rattle.rf_jtree.specs.declared.operators.Op.{Op}
 use Rattle.rf_jtree.specs.declared.tokens.Tok.{Tok}
 use Rattle.rf_jtree.specs.declared.tokens.TokKind.{TokKind}
 use Rattle.rf_jtree.specs.declared.tokens.TokKind.TheVariants as kind
-use Rattle.rf_jfit.specs.declared.levels.TheConstants.{PRIMARY_LEVEL, POSTFIX_LEVEL, UNARY_LEVEL}
-use Rattle.rf_jfit.specs.declared.operators.TheConstants.{LEFT_PAREN, LEFT_BRACE, RIGHT_BRACKET, PREFIXES}
-use Rattle.rf_jfit.specs.declared.words.TheConstants.{NEW, SUPER, THIS}
+use Rattle.rf_jtree.specs.declared.levels.TheConstants.{PRIMARY_LEVEL, POSTFIX_LEVEL, UNARY_LEVEL}
+use Rattle.rf_jtree.specs.declared.operator_names.TheConstants.{LEFT_PAREN, LEFT_BRACE, RIGHT_BRACKET, PREFIXES}
+use Rattle.rf_jtree.specs.declared.keyword_names.TheConstants.{NEW, SUPER, THIS}
 use Rattle.rf_jfit.specs.ExprFirst.{expr_first, on_first}
-use Rattle.rf_jfit.specs.ExprFits.{ExprFits, OnFits, begins_operand}
-use Rattle.rf_jfit.specs.ExprTrees.{ExprTree, Assign, Cond, Binary, Instance, Unary, Cast, Postfix, Lit, This, Paren, Name, Call, Field, Super, New, Index, NewArray, NewInit}
-use Rattle.rf_jfit.specs.ExprTrees.{OnTree, NoOn, On, expr_yield}
-use Rattle.rf_jfit.specs.Kinds.{IsOp, IsKey, IsIdent, is_op_of, is_literal}
-use Rattle.rf_jfit.specs.Levels.{BindsAt, binary_level}
+use Rattle.rf_jtree.specs.ExprFits.{ExprFits, OnFits, begins_operand}
+use Rattle.rf_jtree.specs.ExprTrees.{ExprTree, Assign, Cond, Binary, Instance, Unary, Cast, Postfix, Lit, This, Paren, Name, Call, Field, Super, New, Index, NewArray, NewInit}
+use Rattle.rf_jtree.specs.ExprTrees.{OnTree, NoOn, On, expr_yield}
+use Rattle.rf_jtree.specs.Kinds.{IsOp, IsKey, IsIdent, is_op_of, is_literal}
+use Rattle.rf_jtree.specs.Levels.{BindsAt, binary_level}
 use Rattle.rf_jfit.proofs.ExprFirstLemmas.{expr_begins}
 use Rattle.rf_jexpr.specs.Reads.{is_op, begins}
 use Rattle.rf_jexpr.specs.Stops.{begins_expr}

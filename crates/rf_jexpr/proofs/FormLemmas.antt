@@ -5,11 +5,11 @@ use Rattle.rf_jtree.specs.declared.exprs.Expr.{Expr}
 use Rattle.rf_jtree.specs.declared.exprs.Init.{Init}
 use Rattle.rf_jtree.specs.declared.names.Many.{Many}
 use Rattle.rf_jtree.specs.declared.tokens.Tok.{Tok}
-use Rattle.rf_jfit.specs.ExprFits.{IsLeftSide, IsNoName, IsNoNewArray}
-use Rattle.rf_jfit.specs.ExprShown.{expr_shown, init_shown, more_exprs_tree, more_exprs_shown, exprs_shown, more_inits_tree, more_inits_shown, inits_shown, sizes_tree, sizes_shown, super_args_tree, super_args_shown}
-use Rattle.rf_jfit.specs.ExprTrees.{ExprTree, Name, Field, Super, NoArgs, Index, NewArray, InitTree, more_exprs_depth, more_inits_depth, sizes_depth}
-use Rattle.rf_jfit.specs.ExprTrees as t
-use Rattle.rf_jfit.specs.NameTrees.{list_depth}
+use Rattle.rf_jtree.specs.ExprFits.{IsLeftSide, IsNoName, IsNoNewArray}
+use Rattle.rf_jtree.specs.ExprShown.{expr_shown, init_shown, more_exprs_tree, more_exprs_shown, exprs_shown, more_inits_tree, more_inits_shown, inits_shown, sizes_tree, sizes_shown, super_args_tree, super_args_shown}
+use Rattle.rf_jtree.specs.ExprTrees.{ExprTree, Name, Field, Super, NoArgs, Index, NewArray, InitTree, more_exprs_depth, more_inits_depth, sizes_depth}
+use Rattle.rf_jtree.specs.ExprTrees as t
+use Rattle.rf_jtree.specs.NameTrees.{list_depth}
 use Rattle.rf_jexpr.specs.Descent.{is_left_side}
 use Rattle.rf_jexpr.specs.Made.{item_shown, item_depth, init_item_shown, init_item_depth, size_shown, size_depth, exprs_found, inits_found, super_args_found}
 use Rattle.rf_jexpr.specs.PartReads.{exprs_of, inits_of}

@@ -2,8 +2,8 @@
 use Rattle.std.proofs.Common.{◌≡◌, ℕ, zero, suc, ◌+◌, ◌≤◌, ◌<◌, max, List, [], ◌∷◌, ◌++◌, Option, Some, None, map, length, drop, refl, ap, sym, ◌∙◌, subst, arith}
 use Rattle.std.proofs.lemmas.List.{map-append}
 use Rattle.rf_jtree.specs.declared.tokens.Tok.{Tok}
-use Rattle.rf_jfit.specs.ExprTrees.{ExprTree, expr_depth}
-use Rattle.rf_jfit.specs.NameTrees.{list_depth}
+use Rattle.rf_jtree.specs.ExprTrees.{ExprTree, expr_depth}
+use Rattle.rf_jtree.specs.NameTrees.{list_depth}
 use Rattle.rf_jexpr.specs.Reads.{Reads, and_then, many, chain}
 use Rattle.rf_jexpr.proofs.LoopLemmas.{chain-turn, chain-stops}
 use Rattle.rf_jexpr.proofs.Tools.{bind-Some}

@@ -4,9 +4,9 @@ use Rattle.std.proofs.Common.{◌≡◌, ℕ, zero, suc, ◌+◌, ◌≤◌, ◌
 use Rattle.std.specs.List.{flat_map}
 use Rattle.rf_jtree.specs.declared.operators.Op.{Op}
 use Rattle.rf_jtree.specs.declared.tokens.Tok.{Tok}
-use Rattle.rf_jfit.specs.Kinds.{IsOp}
-use Rattle.rf_jfit.specs.NameFits.{EachFits, ManyFit}
-use Rattle.rf_jfit.specs.NameTrees.{many_yield}
+use Rattle.rf_jtree.specs.Kinds.{IsOp}
+use Rattle.rf_jtree.specs.NameFits.{EachFits, ManyFit}
+use Rattle.rf_jtree.specs.NameTrees.{many_yield}
 use Rattle.rf_jexpr.specs.Reads.{Reads, and_then, or_else, is_op, token, repeat, many, behind, separated, chain}
 use Rattle.rf_jexpr.proofs.Tools.{bound, of_bind, by_first, by_other, of_else, missing, there, perhaps, token_takes, bind-Some, bind-None, else-Some, else-None, token-at, is_op-IsOp, IsOp-is_op, by_some}
 

@@ -1,10 +1,10 @@
 -- What the readers of a whole room are: nothing where it is 0, and else those of one room more than is left for parts.
 use Rattle.std.proofs.Common.{◌≡◌, ℕ, zero, suc, ◌-◌, ◌<◌, List, Some, None, if◌then◌else◌, refl, arith}
 use Rattle.rf_jtree.specs.declared.tokens.Tok.{Tok}
-use Rattle.rf_jfit.specs.declared.levels.TheConstants.{OR_OR_LEVEL}
-use Rattle.rf_jfit.specs.declared.operators.TheConstants.{LEFT_BRACE, PREFIXES}
-use Rattle.rf_jfit.specs.ExprTrees.{Value, Braced}
-use Rattle.rf_jfit.specs.Kinds.{is_op_of}
+use Rattle.rf_jtree.specs.declared.levels.TheConstants.{OR_OR_LEVEL}
+use Rattle.rf_jtree.specs.declared.operator_names.TheConstants.{LEFT_BRACE, PREFIXES}
+use Rattle.rf_jtree.specs.ExprTrees.{Value, Braced}
+use Rattle.rf_jtree.specs.Kinds.{is_op_of}
 use Rattle.rf_jexpr.specs.Descent.{parsers, with_room, nothing, expr, conditional, binary, unary, init, choice, assignment, operator, prefixed, cast, postfix}
 use Rattle.rf_jexpr.specs.PartReads.{braces}
 use Rattle.rf_jexpr.specs.Reads.{and_then, or_else, begins, is_op, chain}

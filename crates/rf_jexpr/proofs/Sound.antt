@@ -4,15 +4,15 @@ use Rattle.rf_jtree.specs.declared.operators.Op.{Op}
 use Rattle.rf_jtree.specs.declared.tokens.Tok.{Tok}
 use Rattle.rf_jtree.specs.declared.tokens.TokKind.{TokKind}
 use Rattle.rf_jtree.specs.declared.tokens.TokKind.TheVariants as kind
-use Rattle.rf_jfit.specs.declared.levels.TheConstants.{ASSIGNMENT_LEVEL, CONDITIONAL_LEVEL, OR_OR_LEVEL, AND_AND_LEVEL, OR_LEVEL, XOR_LEVEL, AND_LEVEL, EQUALITY_LEVEL, COMPARISON_LEVEL, SHIFT_LEVEL, ADDITIVE_LEVEL, MULTIPLICATIVE_LEVEL, UNARY_LEVEL, POSTFIX_LEVEL, PRIMARY_LEVEL}
-use Rattle.rf_jfit.specs.declared.operators.TheConstants.{OR_OR, AND_AND, OR, XOR, AND, EQUALITIES, COMPARISONS, SHIFTS, ADDITIVES, MULTIPLICATIVES, LEFT_PAREN, RIGHT_PAREN, LEFT_BRACE, QUESTION, COLON, ASSIGNMENTS, PREFIXES, SUFFIXES}
-use Rattle.rf_jfit.specs.declared.words.TheConstants.{INSTANCEOF}
-use Rattle.rf_jfit.specs.ExprFits.{IsLeftSide, CastTakes, BeginsOperand, begins_operand}
+use Rattle.rf_jtree.specs.declared.levels.TheConstants.{ASSIGNMENT_LEVEL, CONDITIONAL_LEVEL, OR_OR_LEVEL, AND_AND_LEVEL, OR_LEVEL, XOR_LEVEL, AND_LEVEL, EQUALITY_LEVEL, COMPARISON_LEVEL, SHIFT_LEVEL, ADDITIVE_LEVEL, MULTIPLICATIVE_LEVEL, UNARY_LEVEL, POSTFIX_LEVEL, PRIMARY_LEVEL}
+use Rattle.rf_jtree.specs.declared.operator_names.TheConstants.{OR_OR, AND_AND, OR, XOR, AND, EQUALITIES, COMPARISONS, SHIFTS, ADDITIVES, MULTIPLICATIVES, LEFT_PAREN, RIGHT_PAREN, LEFT_BRACE, QUESTION, COLON, ASSIGNMENTS, PREFIXES, SUFFIXES}
+use Rattle.rf_jtree.specs.declared.keyword_names.TheConstants.{INSTANCEOF}
+use Rattle.rf_jtree.specs.ExprFits.{IsLeftSide, CastTakes, BeginsOperand, begins_operand}
 use Rattle.rf_jfit.specs.ExprFirst.{expr_first}
-use Rattle.rf_jfit.specs.ExprTrees.{ExprTree, Assign, Cond, Binary, Instance, Unary, Cast, Postfix, Name, Field, Super, Index, NoArgs, Value, Braced, expr_yield, init_yield, braces_yield, expr_depth, braces_depth}
-use Rattle.rf_jfit.specs.Kinds.{is_op_of, has_op}
-use Rattle.rf_jfit.specs.Levels.{binary_level, op_level, expr_level}
-use Rattle.rf_jfit.specs.NameTrees.{TypeBaseTree, Prim, Named, TypeUseTree, type_yield}
+use Rattle.rf_jtree.specs.ExprTrees.{ExprTree, Assign, Cond, Binary, Instance, Unary, Cast, Postfix, Name, Field, Super, Index, NoArgs, Value, Braced, expr_yield, init_yield, braces_yield, expr_depth, braces_depth}
+use Rattle.rf_jtree.specs.Kinds.{is_op_of, has_op}
+use Rattle.rf_jtree.specs.Levels.{binary_level, op_level, expr_level}
+use Rattle.rf_jtree.specs.NameTrees.{TypeBaseTree, Prim, Named, TypeUseTree, type_yield}
 use Rattle.rf_jfit.proofs.ExprFirstLemmas.{expr_begins}
 use Rattle.rf_jexpr.specs.Descent.{step, postfix, prefixed, is_primitive, casts, cast, unary, takes_left, operation, instance, operator, binary, choice, conditional, is_left_side, assignment, expr, init, nothing, with_room, parsers}
 use Rattle.rf_jexpr.specs.NameReads.{type_use}

@@ -1,11 +1,11 @@
 -- What the readers of names and types read fits.
 use Rattle.std.proofs.Common.{◌≡◌, List, ◌∷◌, ◌++◌, Option, Some, None, Bool, IsTrue, IfSome, refl, ap, ◌∙◌, sym, subst, append_assoc}
 use Rattle.rf_jtree.specs.declared.tokens.Tok.{Tok}
-use Rattle.rf_jfit.specs.declared.operators.TheConstants.{DOT, LEFT_BRACKET, RIGHT_BRACKET}
-use Rattle.rf_jfit.specs.declared.words.TheConstants.{PRIMITIVES}
-use Rattle.rf_jfit.specs.Kinds.{IsIdent, is_key_of}
-use Rattle.rf_jfit.specs.NameFits.{NameFits, BracketsFit, DimsFit, BaseFits, TypeFits, ManyFit}
-use Rattle.rf_jfit.specs.NameTrees.{Prim, Named, tok_yield, pair_yield, option_yield, many_yield, name_yield, dims_yield, base_yield, type_yield}
+use Rattle.rf_jtree.specs.declared.operator_names.TheConstants.{DOT, LEFT_BRACKET, RIGHT_BRACKET}
+use Rattle.rf_jtree.specs.declared.keyword_names.TheConstants.{PRIMITIVES}
+use Rattle.rf_jtree.specs.Kinds.{IsIdent, is_key_of}
+use Rattle.rf_jtree.specs.NameFits.{NameFits, BracketsFit, DimsFit, BaseFits, TypeFits, ManyFit}
+use Rattle.rf_jtree.specs.NameTrees.{Prim, Named, tok_yield, pair_yield, option_yield, many_yield, name_yield, dims_yield, base_yield, type_yield}
 use Rattle.rf_jexpr.specs.NameReads.{name, brackets, dims, primitive, named_type, type_base, type_use}
 use Rattle.rf_jexpr.specs.Reads.{Reads, ◌>>=◌, is_op, is_ident, token, optional}
 use Rattle.rf_jexpr.proofs.LoopLemmas.{Read, IsSound, many-sound, separated-sound}

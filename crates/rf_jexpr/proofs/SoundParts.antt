@@ -2,15 +2,15 @@
 use Rattle.std.proofs.Common.{◌≡◌, ℕ, suc, ◌≤◌, max, List, [], ◌∷◌, ◌++◌, Option, Some, None, IfSome, refl, ap, ◌∙◌, sym, append_assoc, arith}
 use Rattle.std.specs.List.{flat_map}
 use Rattle.rf_jtree.specs.declared.tokens.Tok.{Tok}
-use Rattle.rf_jfit.specs.declared.levels.TheConstants.{ASSIGNMENT_LEVEL, CONDITIONAL_LEVEL, OR_OR_LEVEL, UNARY_LEVEL, PRIMARY_LEVEL}
-use Rattle.rf_jfit.specs.declared.operators.TheConstants.{LEFT_PAREN, RIGHT_PAREN, LEFT_BRACE, RIGHT_BRACE, LEFT_BRACKET, RIGHT_BRACKET, COMMA}
-use Rattle.rf_jfit.specs.ExprFits.{ExprFits, ArgsFit, ExprsFit, MoreExprsFit, SizesFit, InitFits, BracesFit, InitsFit, MoreInitsFit}
-use Rattle.rf_jfit.specs.ExprShown.{more_exprs_tree, more_inits_tree, sizes_tree}
-use Rattle.rf_jfit.specs.ExprTrees.{ExprTree, Paren, ArgsTree, Args, ExprsTree, InitTree, BracesTree, Braces, InitsTree, expr_yield, args_yield, exprs_yield, more_exprs_yield, sizes_yield, init_yield, braces_yield, inits_yield, more_inits_yield, expr_depth, args_depth, exprs_depth, more_exprs_depth, sizes_depth, init_depth, braces_depth, inits_depth, more_inits_depth}
-use Rattle.rf_jfit.specs.Kinds.{IsOp, AreBrackets}
-use Rattle.rf_jfit.specs.Levels.{BindsAt}
-use Rattle.rf_jfit.specs.NameFits.{EachFits, ManyFit}
-use Rattle.rf_jfit.specs.NameTrees.{ManyTree, many_yield, option_yield, tok_yield}
+use Rattle.rf_jtree.specs.declared.levels.TheConstants.{ASSIGNMENT_LEVEL, CONDITIONAL_LEVEL, OR_OR_LEVEL, UNARY_LEVEL, PRIMARY_LEVEL}
+use Rattle.rf_jtree.specs.declared.operator_names.TheConstants.{LEFT_PAREN, RIGHT_PAREN, LEFT_BRACE, RIGHT_BRACE, LEFT_BRACKET, RIGHT_BRACKET, COMMA}
+use Rattle.rf_jtree.specs.ExprFits.{ExprFits, ArgsFit, ExprsFit, MoreExprsFit, SizesFit, InitFits, BracesFit, InitsFit, MoreInitsFit}
+use Rattle.rf_jtree.specs.ExprShown.{more_exprs_tree, more_inits_tree, sizes_tree}
+use Rattle.rf_jtree.specs.ExprTrees.{ExprTree, Paren, ArgsTree, Args, ExprsTree, InitTree, BracesTree, Braces, InitsTree, expr_yield, args_yield, exprs_yield, more_exprs_yield, sizes_yield, init_yield, braces_yield, inits_yield, more_inits_yield, expr_depth, args_depth, exprs_depth, more_exprs_depth, sizes_depth, init_depth, braces_depth, inits_depth, more_inits_depth}
+use Rattle.rf_jtree.specs.Kinds.{IsOp, AreBrackets}
+use Rattle.rf_jtree.specs.Levels.{BindsAt}
+use Rattle.rf_jtree.specs.NameFits.{EachFits, ManyFit}
+use Rattle.rf_jtree.specs.NameTrees.{ManyTree, many_yield, option_yield, tok_yield}
 use Rattle.rf_jexpr.specs.PartReads.{Parsers, paren, exprs_of, args, sized, inits_of, braces}
 use Rattle.rf_jexpr.specs.Reads.{is_op, token, optional, separated}
 use Rattle.rf_jexpr.proofs.LoopLemmas.{Read, IsSound, separated-sound}

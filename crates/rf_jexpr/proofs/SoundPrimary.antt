@@ -3,15 +3,15 @@ use Rattle.std.proofs.Common.{◌≡◌, ℕ, suc, ◌≤◌, List, [], ◌∷�
 use Rattle.std.specs.List.{flat_map}
 use Rattle.rf_jtree.specs.declared.names.Dims.{Dims}
 use Rattle.rf_jtree.specs.declared.tokens.Tok.{Tok}
-use Rattle.rf_jfit.specs.declared.levels.TheConstants.{PRIMARY_LEVEL}
-use Rattle.rf_jfit.specs.declared.operators.TheConstants.{LEFT_PAREN, DOT}
-use Rattle.rf_jfit.specs.declared.words.TheConstants.{NEW, SUPER, THIS}
-use Rattle.rf_jfit.specs.ExprFits.{OnFits, SuperArgsFit, IsNoName, IsNoNewArray, HasBrackets}
-use Rattle.rf_jfit.specs.ExprShown.{sizes_tree, super_args_tree}
-use Rattle.rf_jfit.specs.ExprTrees.{ExprTree, Name, Call, Field, Super, New, Index, NewArray, NewInit, On, ArgsTree, expr_yield, on_yield, args_yield, super_args_yield, sizes_yield, expr_depth, on_depth, super_args_depth, braces_yield, args_depth, braces_depth, sizes_depth}
-use Rattle.rf_jfit.specs.Kinds.{IsOp, IsIdent, IsKey, is_literal}
-use Rattle.rf_jfit.specs.NameFits.{NameFits, EachFits, BaseFits}
-use Rattle.rf_jfit.specs.NameTrees.{NameTree, TypeBaseTree, Prim, Named, tok_yield, option_yield, name_yield, base_yield, dims_yield}
+use Rattle.rf_jtree.specs.declared.levels.TheConstants.{PRIMARY_LEVEL}
+use Rattle.rf_jtree.specs.declared.operator_names.TheConstants.{LEFT_PAREN, DOT}
+use Rattle.rf_jtree.specs.declared.keyword_names.TheConstants.{NEW, SUPER, THIS}
+use Rattle.rf_jtree.specs.ExprFits.{OnFits, SuperArgsFit, IsNoName, IsNoNewArray, HasBrackets}
+use Rattle.rf_jtree.specs.ExprShown.{sizes_tree, super_args_tree}
+use Rattle.rf_jtree.specs.ExprTrees.{ExprTree, Name, Call, Field, Super, New, Index, NewArray, NewInit, On, ArgsTree, expr_yield, on_yield, args_yield, super_args_yield, sizes_yield, expr_depth, on_depth, super_args_depth, braces_yield, args_depth, braces_depth, sizes_depth}
+use Rattle.rf_jtree.specs.Kinds.{IsOp, IsIdent, IsKey, is_literal}
+use Rattle.rf_jtree.specs.NameFits.{NameFits, EachFits, BaseFits}
+use Rattle.rf_jtree.specs.NameTrees.{NameTree, TypeBaseTree, Prim, Named, tok_yield, option_yield, name_yield, base_yield, dims_yield}
 use Rattle.rf_jexpr.specs.NameReads.{name, dims, type_base}
 use Rattle.rf_jexpr.specs.PartReads.{Parsers, args, sized, braces}
 use Rattle.rf_jexpr.specs.PrimaryReads.{literal, this_word, super_member, new_class, has_brackets, new_filled, new_array, creation, front, last, called_on, called_id, named_call, named, first_part, member_call, is_no_name, field, member, is_no_new_array, item, suffix, primary}

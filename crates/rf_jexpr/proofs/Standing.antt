@@ -1,7 +1,7 @@
 -- A reader that goes on growing what it has in hand: where it stands, and what it answers from there.
 use Rattle.std.proofs.Common.{◌≡◌, ℕ, zero, suc, ◌+◌, ◌≤◌, List, ◌++◌, Some, None, length, ap, ◌∙◌, arith}
 use Rattle.rf_jtree.specs.declared.tokens.Tok.{Tok}
-use Rattle.rf_jfit.specs.ExprTrees.{ExprTree, expr_yield, expr_depth}
+use Rattle.rf_jtree.specs.ExprTrees.{ExprTree, expr_yield, expr_depth}
 use Rattle.rf_jexpr.specs.Reads.{Reads, chain}
 use Rattle.rf_jexpr.proofs.LoopLemmas.{chain-turn, chain-stops}
 use Rattle.rf_jexpr.proofs.Within.{Reaches, IsBounded, reaches-Some, reaches-chain}

@@ -6,13 +6,13 @@ use Rattle.rf_jtree.specs.declared.operators.Op.{Op}
 use Rattle.rf_jtree.specs.declared.tokens.Tok.{Tok}
 use Rattle.rf_jtree.specs.declared.tokens.TokKind.{TokKind}
 use Rattle.rf_jtree.specs.declared.tokens.TokKind.TheVariants as kind
-use Rattle.rf_jfit.specs.declared.levels.TheConstants.{ASSIGNMENT_LEVEL, CONDITIONAL_LEVEL, OR_OR_LEVEL, COMPARISON_LEVEL, SHIFT_LEVEL}
-use Rattle.rf_jfit.specs.declared.operators.TheConstants.{SEMICOLON, RIGHT_PAREN, LEFT_BRACKET, RIGHT_BRACKET, RIGHT_BRACE, DOT, COMMA, COLON, QUESTION, ASSIGNMENTS, SUFFIXES, OPERAND_OPERATORS}
-use Rattle.rf_jfit.specs.declared.words.TheConstants.{INSTANCEOF}
+use Rattle.rf_jtree.specs.declared.levels.TheConstants.{ASSIGNMENT_LEVEL, CONDITIONAL_LEVEL, OR_OR_LEVEL, COMPARISON_LEVEL, SHIFT_LEVEL}
+use Rattle.rf_jtree.specs.declared.operator_names.TheConstants.{SEMICOLON, RIGHT_PAREN, LEFT_BRACKET, RIGHT_BRACKET, RIGHT_BRACE, DOT, COMMA, COLON, QUESTION, ASSIGNMENTS, SUFFIXES, OPERAND_OPERATORS}
+use Rattle.rf_jtree.specs.declared.keyword_names.TheConstants.{INSTANCEOF}
 use Rattle.rf_jtree.specs.declared.words.Kw.{Kw}
-use Rattle.rf_jfit.specs.ExprFits.{begins_operand}
-use Rattle.rf_jfit.specs.Kinds.{IsOp, IsKey, is_op_of, has_op}
-use Rattle.rf_jfit.specs.Levels.{binary_level, op_level}
+use Rattle.rf_jtree.specs.ExprFits.{begins_operand}
+use Rattle.rf_jtree.specs.Kinds.{IsOp, IsKey, is_op_of, has_op}
+use Rattle.rf_jtree.specs.Levels.{binary_level, op_level}
 use Rattle.rf_jexpr.specs.Reads.{is_op, is_key, begins}
 use Rattle.rf_jexpr.proofs.Tools.{both, and_true, is_op-IsOp}
 use Rattle.rf_jexpr.specs.Stops.{joins, tests_sort, asks, assigns, goes_on, stops, Stops}

@@ -5,7 +5,7 @@ use Rattle.rf_jtree.specs.declared.tokens.Tok.{Tok}
 use Rattle.rf_jtree.specs.declared.tokens.TokKind.{TokKind}
 use Rattle.rf_jtree.specs.declared.tokens.TokKind.TheVariants as kind
 use Rattle.rf_jtree.specs.declared.words.Kw.{Kw}
-use Rattle.rf_jfit.specs.Kinds.{IsOp, IsKey, IsIdent}
+use Rattle.rf_jtree.specs.Kinds.{IsOp, IsKey, IsIdent}
 use Rattle.rf_jexpr.specs.Reads.{Reads, and_then, ◌>>=◌, or_else, when, is_op, is_key, is_ident, begins, token, optional}
 
 -- ---- a reader that answered

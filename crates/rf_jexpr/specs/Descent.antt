@@ -1,14 +1,14 @@
 -- The readers of whole expressions: those of each room from those of the room below it.
 use Rattle.std.specs.Prelude.{ℕ, zero, suc, ◌+◌, nat_le, List, [], ◌∷◌, Some, None, Bool, true, false, ◌&&◌, if◌then◌else◌}
 use Rattle.rf_jtree.specs.declared.tokens.Tok.{Tok}
-use Rattle.rf_jfit.specs.declared.levels.TheConstants.{OR_OR_LEVEL, COMPARISON_LEVEL}
-use Rattle.rf_jfit.specs.declared.operators.TheConstants.{LEFT_PAREN, RIGHT_PAREN, LEFT_BRACE, QUESTION, COLON, ASSIGNMENTS, PREFIXES, SUFFIXES}
-use Rattle.rf_jfit.specs.declared.words.TheConstants.{INSTANCEOF}
-use Rattle.rf_jfit.specs.ExprFits.{begins_operand}
-use Rattle.rf_jfit.specs.ExprTrees.{ExprTree, Assign, Cond, Binary, Instance, Unary, Cast, Postfix, Name, Field, Super, Index, NoArgs, InitTree, Value, Braced, expr_depth}
-use Rattle.rf_jfit.specs.Kinds.{is_op_of}
-use Rattle.rf_jfit.specs.Levels.{binary_level, expr_level}
-use Rattle.rf_jfit.specs.NameTrees.{TypeBaseTree, Prim, Named, TypeUseTree}
+use Rattle.rf_jtree.specs.declared.levels.TheConstants.{OR_OR_LEVEL, COMPARISON_LEVEL}
+use Rattle.rf_jtree.specs.declared.operator_names.TheConstants.{LEFT_PAREN, RIGHT_PAREN, LEFT_BRACE, QUESTION, COLON, ASSIGNMENTS, PREFIXES, SUFFIXES}
+use Rattle.rf_jtree.specs.declared.keyword_names.TheConstants.{INSTANCEOF}
+use Rattle.rf_jtree.specs.ExprFits.{begins_operand}
+use Rattle.rf_jtree.specs.ExprTrees.{ExprTree, Assign, Cond, Binary, Instance, Unary, Cast, Postfix, Name, Field, Super, Index, NoArgs, InitTree, Value, Braced, expr_depth}
+use Rattle.rf_jtree.specs.Kinds.{is_op_of}
+use Rattle.rf_jtree.specs.Levels.{binary_level, expr_level}
+use Rattle.rf_jtree.specs.NameTrees.{TypeBaseTree, Prim, Named, TypeUseTree}
 use Rattle.rf_jexpr.specs.NameReads.{type_use}
 use Rattle.rf_jexpr.specs.PartReads.{Parsers, braces}
 use Rattle.rf_jexpr.specs.PrimaryReads.{primary, creation}

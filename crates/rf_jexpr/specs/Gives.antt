@@ -3,11 +3,11 @@
 use Rattle.std.specs.Prelude.{◌≡◌, ℕ, ◌≤◌, List, drop, length, Option, Some, None, Result, Ok, Err, Bool}
 use Rattle.rf_jtree.specs.declared.exprs.Expr.{Expr}
 use Rattle.rf_jtree.specs.declared.tokens.Tok.{Tok}
-use Rattle.rf_jfit.specs.declared.operators.TheConstants.{ASSIGNMENTS, PREFIXES, SUFFIXES}
-use Rattle.rf_jfit.specs.declared.words.TheConstants.{PRIMITIVES}
-use Rattle.rf_jfit.specs.ExprShown.{expr_shown}
-use Rattle.rf_jfit.specs.ExprTrees.{ExprTree, expr_depth}
-use Rattle.rf_jfit.specs.Kinds.{is_key_of, is_literal, is_op_of}
+use Rattle.rf_jtree.specs.declared.operator_names.TheConstants.{ASSIGNMENTS, PREFIXES, SUFFIXES}
+use Rattle.rf_jtree.specs.declared.keyword_names.TheConstants.{PRIMITIVES}
+use Rattle.rf_jtree.specs.ExprShown.{expr_shown}
+use Rattle.rf_jtree.specs.ExprTrees.{ExprTree, expr_depth}
+use Rattle.rf_jtree.specs.Kinds.{is_key_of, is_literal, is_op_of}
 use Rattle.rf_jexpr.specs.declared.cursor.Want.{Want}
 use Rattle.rf_jexpr.specs.declared.cursor.Want.TheVariants as want
 use Rattle.rf_jexpr.specs.declared.found.Found.{Found}

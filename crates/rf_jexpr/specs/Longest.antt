@@ -2,9 +2,9 @@
 use Rattle.std.specs.Prelude.{◌≡◌, ℕ, ◌≤◌, List, ◌++◌, drop, length, Result, Ok, Err}
 use Rattle.rf_jtree.specs.declared.exprs.Expr.{Expr}
 use Rattle.rf_jtree.specs.declared.tokens.Tok.{Tok}
-use Rattle.rf_jfit.specs.ExprFits.{ExprFits}
-use Rattle.rf_jfit.specs.ExprShown.{expr_shown}
-use Rattle.rf_jfit.specs.ExprTrees.{ExprTree, New, NewArray, NewInit, expr_yield, expr_depth}
+use Rattle.rf_jtree.specs.ExprFits.{ExprFits}
+use Rattle.rf_jtree.specs.ExprShown.{expr_shown}
+use Rattle.rf_jtree.specs.ExprTrees.{ExprTree, New, NewArray, NewInit, expr_yield, expr_depth}
 use Rattle.rf_jexpr.specs.declared.found.Found.{Found}
 use Rattle.rf_jexpr.specs.declared.found.Taken.{Taken}
 use Rattle.rf_jexpr.specs.declared.parse_err.ParseErr.{ParseErr}

@@ -7,10 +7,10 @@ use Rattle.rf_jtree.specs.declared.exprs.Expr.{Expr}
 use Rattle.rf_jtree.specs.declared.exprs.Init.{Init}
 use Rattle.rf_jtree.specs.declared.names.Many.{Many}
 use Rattle.rf_jtree.specs.declared.tokens.Tok.{Tok}
-use Rattle.rf_jfit.specs.ExprShown.{expr_shown, init_shown, args_shown, super_args_tree}
-use Rattle.rf_jfit.specs.ExprTrees.{ExprTree, Postfix, InitTree, ArgsTree, expr_depth, init_depth, exprs_depth, inits_depth, super_args_depth}
-use Rattle.rf_jfit.specs.NameShown.{many_shown}
-use Rattle.rf_jfit.specs.NameTrees.{ManyTree}
+use Rattle.rf_jtree.specs.ExprShown.{expr_shown, init_shown, args_shown, super_args_tree}
+use Rattle.rf_jtree.specs.ExprTrees.{ExprTree, Postfix, InitTree, ArgsTree, expr_depth, init_depth, exprs_depth, inits_depth, super_args_depth}
+use Rattle.rf_jtree.specs.NameShown.{many_shown}
+use Rattle.rf_jtree.specs.NameTrees.{ManyTree}
 use Rattle.rf_jexpr.specs.declared.found.Found.{Found}
 use Rattle.rf_jexpr.specs.declared.found.Taken.{Taken}
 use Rattle.rf_jexpr.specs.PartReads.{exprs_of, inits_of}

@@ -2,10 +2,10 @@
 use Rattle.std.specs.Prelude.{Some, if◌then◌else◌}
 use Rattle.rf_jtree.specs.declared.names.Dims.{Dims}
 use Rattle.rf_jtree.specs.declared.tokens.Tok.{Tok}
-use Rattle.rf_jfit.specs.declared.operators.TheConstants.{DOT, LEFT_BRACKET, RIGHT_BRACKET}
-use Rattle.rf_jfit.specs.declared.words.TheConstants.{PRIMITIVES}
-use Rattle.rf_jfit.specs.Kinds.{is_key_of}
-use Rattle.rf_jfit.specs.NameTrees.{NameTree, TypeBaseTree, Prim, Named, TypeUseTree}
+use Rattle.rf_jtree.specs.declared.operator_names.TheConstants.{DOT, LEFT_BRACKET, RIGHT_BRACKET}
+use Rattle.rf_jtree.specs.declared.keyword_names.TheConstants.{PRIMITIVES}
+use Rattle.rf_jtree.specs.Kinds.{is_key_of}
+use Rattle.rf_jtree.specs.NameTrees.{NameTree, TypeBaseTree, Prim, Named, TypeUseTree}
 use Rattle.rf_jexpr.specs.Reads.{Reads, ◌>>=◌, is_op, is_ident, begins, token, many, separated}
 
 -- identifiers with dots between them (JLS 6.2)

@@ -2,10 +2,10 @@
 -- expression that stand in brackets of their own.
 use Rattle.std.specs.Prelude.{ℕ, Option, Some, None}
 use Rattle.rf_jtree.specs.declared.tokens.Tok.{Tok}
-use Rattle.rf_jfit.specs.declared.operators.TheConstants.{LEFT_PAREN, RIGHT_PAREN, LEFT_BRACE, RIGHT_BRACE, LEFT_BRACKET, RIGHT_BRACKET, COMMA}
-use Rattle.rf_jfit.specs.ExprShown.{more_exprs_tree, more_inits_tree}
-use Rattle.rf_jfit.specs.ExprTrees.{ExprTree, Paren, ArgsTree, Args, ExprsTree, NoExprs, Exprs, InitTree, BracesTree, Braces, InitsTree, NoInits, Inits}
-use Rattle.rf_jfit.specs.NameTrees.{ManyTree}
+use Rattle.rf_jtree.specs.declared.operator_names.TheConstants.{LEFT_PAREN, RIGHT_PAREN, LEFT_BRACE, RIGHT_BRACE, LEFT_BRACKET, RIGHT_BRACKET, COMMA}
+use Rattle.rf_jtree.specs.ExprShown.{more_exprs_tree, more_inits_tree}
+use Rattle.rf_jtree.specs.ExprTrees.{ExprTree, Paren, ArgsTree, Args, ExprsTree, NoExprs, Exprs, InitTree, BracesTree, Braces, InitsTree, NoInits, Inits}
+use Rattle.rf_jtree.specs.NameTrees.{ManyTree}
 use Rattle.rf_jexpr.specs.Reads.{Reads, ◌>>=◌, is_op, token, optional, separated}
 
 -- For one room, the longest expression that is no deeper than it: any one; one that is no assignment; one that binds at

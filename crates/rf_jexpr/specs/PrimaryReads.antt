@@ -2,12 +2,12 @@
 use Rattle.std.specs.Prelude.{ℕ, suc, nat_le, List, [], ◌∷◌, Some, None, Bool, true, false, if◌then◌else◌}
 use Rattle.rf_jtree.specs.declared.names.Dims.{Dims}
 use Rattle.rf_jtree.specs.declared.tokens.Tok.{Tok}
-use Rattle.rf_jfit.specs.declared.operators.TheConstants.{LEFT_PAREN, DOT}
-use Rattle.rf_jfit.specs.declared.words.TheConstants.{NEW, SUPER, THIS}
-use Rattle.rf_jfit.specs.ExprShown.{sizes_tree, super_args_tree}
-use Rattle.rf_jfit.specs.ExprTrees.{ExprTree, Lit, This, Name, Call, Field, Super, New, Index, NewArray, NewInit, OnTree, NoOn, On, expr_depth, on_depth}
-use Rattle.rf_jfit.specs.Kinds.{is_literal}
-use Rattle.rf_jfit.specs.NameTrees.{NameTree, TypeBaseTree, Prim, Named}
+use Rattle.rf_jtree.specs.declared.operator_names.TheConstants.{LEFT_PAREN, DOT}
+use Rattle.rf_jtree.specs.declared.keyword_names.TheConstants.{NEW, SUPER, THIS}
+use Rattle.rf_jtree.specs.ExprShown.{sizes_tree, super_args_tree}
+use Rattle.rf_jtree.specs.ExprTrees.{ExprTree, Lit, This, Name, Call, Field, Super, New, Index, NewArray, NewInit, OnTree, NoOn, On, expr_depth, on_depth}
+use Rattle.rf_jtree.specs.Kinds.{is_literal}
+use Rattle.rf_jtree.specs.NameTrees.{NameTree, TypeBaseTree, Prim, Named}
 use Rattle.rf_jexpr.specs.NameReads.{name, dims, type_base}
 use Rattle.rf_jexpr.specs.PartReads.{Parsers, paren, args, sized, braces}
 use Rattle.rf_jexpr.specs.Reads.{Reads, ◌>>=◌, or_else, when, is_op, is_key, is_ident, begins, token, optional, many, chain}

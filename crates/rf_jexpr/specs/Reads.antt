@@ -5,7 +5,7 @@ use Rattle.rf_jtree.specs.declared.tokens.Tok.{Tok}
 use Rattle.rf_jtree.specs.declared.tokens.TokKind.{TokKind}
 use Rattle.rf_jtree.specs.declared.tokens.TokKind.TheVariants as kind
 use Rattle.rf_jtree.specs.declared.words.Kw.{Kw}
-use Rattle.rf_jfit.specs.NameTrees.{ManyTree}
+use Rattle.rf_jtree.specs.NameTrees.{ManyTree}
 
 abbrev pub Reads : Type 0 → Type 0
 Reads A = List Tok → Option (A × List Tok)

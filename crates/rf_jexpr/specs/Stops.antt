@@ -1,12 +1,12 @@
 -- What an expression begins with, and what may follow one without going on with it.
 use Rattle.std.specs.Prelude.{ℕ, List, Bool, not, ◌&&◌, ◌||◌, IsTrue, nat_le}
 use Rattle.rf_jtree.specs.declared.tokens.Tok.{Tok}
-use Rattle.rf_jfit.specs.declared.levels.TheConstants.{ASSIGNMENT_LEVEL, CONDITIONAL_LEVEL, OR_OR_LEVEL, COMPARISON_LEVEL}
-use Rattle.rf_jfit.specs.declared.operators.TheConstants.{LEFT_BRACKET, DOT, QUESTION, ASSIGNMENTS, PREFIXES, SUFFIXES}
-use Rattle.rf_jfit.specs.declared.words.TheConstants.{INSTANCEOF}
-use Rattle.rf_jfit.specs.ExprFits.{begins_operand}
-use Rattle.rf_jfit.specs.Kinds.{is_op_of}
-use Rattle.rf_jfit.specs.Levels.{binary_level}
+use Rattle.rf_jtree.specs.declared.levels.TheConstants.{ASSIGNMENT_LEVEL, CONDITIONAL_LEVEL, OR_OR_LEVEL, COMPARISON_LEVEL}
+use Rattle.rf_jtree.specs.declared.operator_names.TheConstants.{LEFT_BRACKET, DOT, QUESTION, ASSIGNMENTS, PREFIXES, SUFFIXES}
+use Rattle.rf_jtree.specs.declared.keyword_names.TheConstants.{INSTANCEOF}
+use Rattle.rf_jtree.specs.ExprFits.{begins_operand}
+use Rattle.rf_jtree.specs.Kinds.{is_op_of}
+use Rattle.rf_jtree.specs.Levels.{binary_level}
 use Rattle.rf_jexpr.specs.Reads.{is_op, is_key, begins}
 
 -- An expression begins with an identifier, a literal, `(`, `this`, `super`, `new` or a prefix operator.

@@ -4,11 +4,11 @@ use Rattle.std.specs.declared.alloc.Global.{Global}
 use Rattle.std.specs.declared.boxed.Box.{Box}
 use Rattle.rf_jtree.specs.declared.exprs.Args.{Args}
 use Rattle.rf_jtree.specs.declared.exprs.Expr.{Expr}
-use Rattle.rf_jfit.specs.ExprShown.{args_shown}
-use Rattle.rf_jfit.specs.ExprTrees.{ExprTree}
-use Rattle.rf_jfit.specs.ExprTrees as t
-use Rattle.rf_jfit.specs.NameShown.{type_shown}
-use Rattle.rf_jfit.specs.NameTrees.{NameTree}
+use Rattle.rf_jtree.specs.ExprShown.{args_shown}
+use Rattle.rf_jtree.specs.ExprTrees.{ExprTree}
+use Rattle.rf_jtree.specs.ExprTrees as t
+use Rattle.rf_jtree.specs.NameShown.{type_shown}
+use Rattle.rf_jtree.specs.NameTrees.{NameTree}
 use Rattle.rf_jexpr.specs.declared.found.Found.{Found}
 use Rattle.rf_jexpr.specs.declared.nodes.Choice.{Choice}
 use Rattle.rf_jexpr.specs.declared.nodes.Operation.{Operation}

@@ -1,7 +1,7 @@
 ghost use Rattle.std.specs.Prelude.{◌≡◌, ◌≤◌, ◌<◌, ◌+◌, ◌^◌, drop, IfOk};
-ghost use Rattle.rf_jfit.specs.ExprShown.{expr_shown};
-ghost use Rattle.rf_jfit.specs.ExprTrees.{expr_depth};
-ghost use Rattle.rf_jfit.specs.Levels.{binary_level};
+ghost use Rattle.rf_jtree.specs.ExprShown.{expr_shown};
+ghost use Rattle.rf_jtree.specs.ExprTrees.{expr_depth};
+ghost use Rattle.rf_jtree.specs.Levels.{binary_level};
 ghost use Rattle.rf_jexpr.specs.Descent.{parsers, takes_left, instance, operation, operator};
 ghost use Rattle.rf_jexpr.specs.Gives.{Gives, GivesTree};
 ghost use Rattle.rf_jexpr.specs.Made.{IsKnown, boxed_shown};
@@ -15,8 +15,9 @@ use crate::names::type_use;
 use crate::nodes::{Operation, Tail, operated};
 use crate::unary::unary;
 use rf_jfit::expr_level;
-use rf_jfit::levels::{COMPARISON_LEVEL, binary_level};
-use rf_jfit::words::INSTANCEOF;
+use rf_jfit::levels::binary_level;
+use rf_jtree::keyword_names::INSTANCEOF;
+use rf_jtree::levels::COMPARISON_LEVEL;
 use rf_jtree::{Expr, Tok};
 use std::alloc::Global;
 

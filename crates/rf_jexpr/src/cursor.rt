@@ -5,9 +5,9 @@ ghost use Rattle.rf_jexpr.specs.Reads.{begins, token};
 
 use crate::ParseErr;
 use crate::found::Taken;
-use rf_jfit::operators::{ASSIGNMENTS, PREFIXES, SUFFIXES};
-use rf_jfit::words::PRIMITIVES;
 use rf_jfit::{is_ident, is_key, is_key_of, is_literal, is_op, is_op_of};
+use rf_jtree::keyword_names::PRIMITIVES;
+use rf_jtree::operator_names::{ASSIGNMENTS, PREFIXES, SUFFIXES};
 use rf_jtree::{Kw, Op, Tok};
 use rf_text::Memory;
 use std::alloc::Global;

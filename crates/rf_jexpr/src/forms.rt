@@ -1,7 +1,7 @@
 ghost use Rattle.std.specs.Prelude.{◌≡◌, ◌++◌, ◌∷◌, max, map, IfOk};
-ghost use Rattle.rf_jfit.specs.ExprShown.{expr_shown, init_shown, args_shown, braces_shown, sizes_tree, super_args_tree};
-ghost use Rattle.rf_jfit.specs.ExprTrees as trees;
-ghost use Rattle.rf_jfit.specs.NameShown.{name_shown, base_shown, type_shown};
+ghost use Rattle.rf_jtree.specs.ExprShown.{expr_shown, init_shown, args_shown, braces_shown, sizes_tree, super_args_tree};
+ghost use Rattle.rf_jtree.specs.ExprTrees as trees;
+ghost use Rattle.rf_jtree.specs.NameShown.{name_shown, base_shown, type_shown};
 ghost use Rattle.rf_jexpr.specs.Made.{IsGrown, boxed_shown, boxed_init_shown, exprs_found, inits_found, size_shown, super_args_found};
 ghost use Rattle.rf_jexpr.specs.PartReads.{exprs_of, inits_of};
 

@@ -5,14 +5,14 @@ use crate::ParseErr;
 use rf_text::Memory;
 
 /// What was read of the tokens, and the number of the token behind it.
-#[derive(Debug, Drop)]
+#[derive(Drop)]
 pub struct Taken<T> {
     pub item: T,
     pub end: usize,
 }
 
 /// What was read of the tokens, the number of the token behind it, and how deep it is.
-#[derive(Debug, Drop)]
+#[derive(Drop)]
 pub struct Found<T> {
     pub tree: T,
     pub end: usize,

@@ -1,6 +1,6 @@
 ghost use Rattle.std.specs.Prelude.{◌≡◌, IsTrue};
-ghost use Rattle.rf_jfit.specs.ExprFits.{ExprFits};
-ghost use Rattle.rf_jfit.specs.ExprTrees.{ExprTree, expr_yield};
+ghost use Rattle.rf_jtree.specs.ExprFits.{ExprFits};
+ghost use Rattle.rf_jtree.specs.ExprTrees.{ExprTree, expr_yield};
 ghost use Rattle.rf_jexpr.specs.Reads.{begins};
 ghost use Rattle.rf_jexpr.specs.Stops.{begins_expr};
 

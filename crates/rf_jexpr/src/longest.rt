@@ -1,10 +1,10 @@
 ghost use Rattle.std.specs.Prelude.{◌≡◌, ◌≤◌, drop, length};
-ghost use Rattle.rf_jfit.specs.ExprFits.{ExprFits, InitFits, ArgsFit};
-ghost use Rattle.rf_jfit.specs.ExprShown.{args_shown};
-ghost use Rattle.rf_jfit.specs.ExprTrees.{expr_yield, expr_depth, init_yield, init_depth, args_yield, args_depth};
-ghost use Rattle.rf_jfit.specs.NameFits.{NameFits, TypeFits};
-ghost use Rattle.rf_jfit.specs.NameShown.{name_shown, type_shown};
-ghost use Rattle.rf_jfit.specs.NameTrees.{name_yield, type_yield};
+ghost use Rattle.rf_jtree.specs.ExprFits.{ExprFits, InitFits, ArgsFit};
+ghost use Rattle.rf_jtree.specs.ExprShown.{args_shown};
+ghost use Rattle.rf_jtree.specs.ExprTrees.{expr_yield, expr_depth, init_yield, init_depth, args_yield, args_depth};
+ghost use Rattle.rf_jtree.specs.NameFits.{NameFits, TypeFits};
+ghost use Rattle.rf_jtree.specs.NameShown.{name_shown, type_shown};
+ghost use Rattle.rf_jtree.specs.NameTrees.{name_yield, type_yield};
 ghost use Rattle.rf_jexpr.specs.Descent.{parsers, creations};
 ghost use Rattle.rf_jexpr.specs.Gives.{Gives, GivesTree};
 ghost use Rattle.rf_jexpr.specs.Longest.{IsLongest, IsLongestOf, CreationFits, not_deep, of_taken, of_found};

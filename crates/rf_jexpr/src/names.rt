@@ -1,6 +1,6 @@
 ghost use Rattle.std.specs.Prelude.{◌≡◌, ◌≤◌, ◌<◌, drop, length, IfOk};
-ghost use Rattle.rf_jfit.specs.NameShown.{name_shown, base_shown, type_shown};
-ghost use Rattle.rf_jfit.specs.declared.operators.TheConstants.{DOT};
+ghost use Rattle.rf_jtree.specs.NameShown.{name_shown, base_shown, type_shown};
+ghost use Rattle.rf_jtree.specs.declared.operator_names.TheConstants.{DOT};
 ghost use Rattle.rf_jexpr.specs.Gives.{Gives, IsTaken};
 ghost use Rattle.rf_jexpr.specs.NameReads.{name, brackets, dims, type_base, type_use};
 ghost use Rattle.rf_jexpr.specs.Reads.{is_op, is_ident, token, many, behind};
@@ -8,7 +8,7 @@ ghost use Rattle.rf_jexpr.specs.Reads.{is_op, is_ident, token, many, behind};
 use crate::ParseErr;
 use crate::cursor::{Want, is_at, take};
 use crate::found::{Taken, attempt};
-use rf_jfit::operators::{DOT, LEFT_BRACKET, RIGHT_BRACKET};
+use rf_jtree::operator_names::{DOT, LEFT_BRACKET, RIGHT_BRACKET};
 use rf_jtree::{Dims, Many, Name, Tok, TypeBase, TypeUse};
 use rf_text::{List, Memory};
 use std::alloc::Global;

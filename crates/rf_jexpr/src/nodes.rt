@@ -1,8 +1,8 @@
 ghost use Rattle.std.specs.Prelude.{◌≡◌, IfOk};
-ghost use Rattle.rf_jfit.specs.ExprShown.{args_shown};
-ghost use Rattle.rf_jfit.specs.ExprTrees.{on_depth};
-ghost use Rattle.rf_jfit.specs.ExprTrees as trees;
-ghost use Rattle.rf_jfit.specs.NameShown.{name_shown, type_shown};
+ghost use Rattle.rf_jtree.specs.ExprShown.{args_shown};
+ghost use Rattle.rf_jtree.specs.ExprTrees.{on_depth};
+ghost use Rattle.rf_jtree.specs.ExprTrees as trees;
+ghost use Rattle.rf_jtree.specs.NameShown.{name_shown, type_shown};
 ghost use Rattle.rf_jexpr.specs.Made.{boxed_shown};
 ghost use Rattle.rf_jexpr.specs.PrimaryReads.{called_on};
 ghost use Rattle.rf_jexpr.specs.Tails.{IsJoined, assigned, chosen, operated, suffixed, named_called};
@@ -16,14 +16,14 @@ use std::alloc::Global;
 // What stands behind an expression and takes it into a greater one; its depth is that of the greater one.
 
 /// An operator and its right operand, behind the left one.
-#[derive(Debug, Drop)]
+#[derive(Drop)]
 pub(crate) struct Operation {
     pub op: Tok,
     pub value: Box<Expr>,
 }
 
 /// `? first : other` behind a test.
-#[derive(Debug, Drop)]
+#[derive(Drop)]
 pub(crate) struct Choice {
     pub mark: Tok,
     pub first: Box<Expr>,
@@ -32,14 +32,14 @@ pub(crate) struct Choice {
 }
 
 /// What stands behind an operand.
-#[derive(Debug, Drop)]
+#[derive(Drop)]
 pub(crate) enum Tail {
     Binary(Operation),
     Instance(Tok, TypeUse),
 }
 
 /// What stands behind a primary expression.
-#[derive(Debug, Drop)]
+#[derive(Drop)]
 pub(crate) enum Suffix {
     Call(Tok, Tok, Args),
     Field(Tok, Tok),

@@ -1,8 +1,8 @@
 ghost use Rattle.std.specs.Prelude.{◌≡◌, ◌≤◌, ◌<◌, ◌+◌, drop, length, map, IfOk};
-ghost use Rattle.rf_jfit.specs.declared.operators.TheConstants.{COMMA};
-ghost use Rattle.rf_jfit.specs.ExprShown.{args_shown, braces_shown};
-ghost use Rattle.rf_jfit.specs.ExprTrees.{expr_depth, args_depth, braces_depth};
-ghost use Rattle.rf_jfit.specs.NameTrees.{list_depth};
+ghost use Rattle.rf_jtree.specs.declared.operator_names.TheConstants.{COMMA};
+ghost use Rattle.rf_jtree.specs.ExprShown.{args_shown, braces_shown};
+ghost use Rattle.rf_jtree.specs.ExprTrees.{expr_depth, args_depth, braces_depth};
+ghost use Rattle.rf_jtree.specs.NameTrees.{list_depth};
 ghost use Rattle.rf_jexpr.specs.Descent.{parsers};
 ghost use Rattle.rf_jexpr.specs.Gives.{GivesTree, IsFound, IsTaken};
 ghost use Rattle.rf_jexpr.specs.Made.{boxed_shown, bracketed_shown, item_shown, item_depth, init_item_shown, init_item_depth, size_shown, size_depth, exprs_found, found_depth, inits_found, inits_found_depth};
@@ -14,7 +14,7 @@ use crate::cursor::{Want, take};
 use crate::forms::{args_of, braces_of, grown, paren_of};
 use crate::found::{Found, Taken, attempt, deeper};
 use crate::top::{expr, init};
-use rf_jfit::operators::{
+use rf_jtree::operator_names::{
     COMMA, LEFT_BRACE, LEFT_BRACKET, LEFT_PAREN, RIGHT_BRACE, RIGHT_BRACKET, RIGHT_PAREN,
 };
 use rf_jtree::{Args, Braces, Expr, Init, Many, Tok};

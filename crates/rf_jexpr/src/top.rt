@@ -1,5 +1,5 @@
 ghost use Rattle.std.specs.Prelude.{◌≡◌, ◌≤◌, ◌<◌, ◌+◌, drop, IfOk};
-ghost use Rattle.rf_jfit.specs.ExprTrees.{expr_depth, init_depth};
+ghost use Rattle.rf_jtree.specs.ExprTrees.{expr_depth, init_depth};
 ghost use Rattle.rf_jexpr.specs.Descent.{parsers, choice, assignment};
 ghost use Rattle.rf_jexpr.specs.Gives.{GivesTree, GivesExpr};
 ghost use Rattle.rf_jexpr.specs.Made.{IsKnown, boxed_shown, boxed_init_shown};
@@ -13,8 +13,8 @@ use crate::found::{Found, attempt, deeper};
 use crate::nodes::{Choice, Operation, assigned, chosen};
 use crate::parts::braces;
 use crate::shapes::is_assignable;
-use rf_jfit::levels::OR_OR_LEVEL;
-use rf_jfit::operators::{COLON, LEFT_BRACE, QUESTION};
+use rf_jtree::levels::OR_OR_LEVEL;
+use rf_jtree::operator_names::{COLON, LEFT_BRACE, QUESTION};
 use rf_jtree::{Expr, Init, Tok};
 use std::alloc::Global;
 

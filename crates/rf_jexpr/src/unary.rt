@@ -1,6 +1,6 @@
 ghost use Rattle.std.specs.Prelude.{◌≡◌, ◌≤◌, ◌<◌, ◌+◌, ◌^◌, drop, length, IfOk};
-ghost use Rattle.rf_jfit.specs.ExprTrees.{Postfix, expr_depth};
-ghost use Rattle.rf_jfit.specs.NameShown.{type_shown};
+ghost use Rattle.rf_jtree.specs.ExprTrees.{Postfix, expr_depth};
+ghost use Rattle.rf_jtree.specs.NameShown.{type_shown};
 ghost use Rattle.rf_jexpr.specs.Descent.{parsers, step, postfix, prefixed, is_primitive, casts, cast};
 ghost use Rattle.rf_jexpr.specs.Gives.{Gives, GivesTree, IsFound};
 ghost use Rattle.rf_jexpr.specs.Made.{IsKnown, IsStepped, boxed_shown};
@@ -13,7 +13,7 @@ use crate::found::{Found, Taken, attempt};
 use crate::names::type_use;
 use crate::primary::primary;
 use rf_jfit::begins_operand;
-use rf_jfit::operators::{LEFT_PAREN, RIGHT_PAREN};
+use rf_jtree::operator_names::{LEFT_PAREN, RIGHT_PAREN};
 use rf_jtree::{Expr, Tok, TypeBase, TypeUse};
 use rf_text::Memory;
 use std::alloc::Global;

@@ -1,9 +1,9 @@
 -- An expression begins with a token.
 use Rattle.std.proofs.Common.{◌↔◌, IsTrue, subst, ◌≡◌, List, [], ◌∷◌, ◌++◌, refl, ap, sym}
 use Rattle.rf_jtree.specs.declared.tokens.Tok.{Tok}
-use Rattle.rf_jfit.specs.ExprTrees.{ExprTree, Assign, Cond, Binary, Instance, Unary, Cast, Postfix, Lit, This, Paren, Name, Call, Field, Super, New, Index, NewArray, NewInit}
-use Rattle.rf_jfit.specs.ExprTrees.{OnTree, NoOn, On, expr_yield, on_yield, args_yield}
-use Rattle.rf_jfit.specs.ExprFits.{BeginsOperand, begins_operand}
+use Rattle.rf_jtree.specs.ExprTrees.{ExprTree, Assign, Cond, Binary, Instance, Unary, Cast, Postfix, Lit, This, Paren, Name, Call, Field, Super, New, Index, NewArray, NewInit}
+use Rattle.rf_jtree.specs.ExprTrees.{OnTree, NoOn, On, expr_yield, on_yield, args_yield}
+use Rattle.rf_jtree.specs.ExprFits.{BeginsOperand, begins_operand}
 use Rattle.rf_jfit.specs.ExprFirst.{expr_first, on_first}
 
 -- the tokens begin with this one

@@ -1,3 +1,1 @@
 pub mod ExprFirstLemmas
-pub mod ExprShows
-pub mod StmtShows

@@ -1,7 +1,7 @@
 -- The token that an expression begins with.
 use Rattle.rf_jtree.specs.declared.tokens.Tok.{Tok}
-use Rattle.rf_jfit.specs.ExprTrees.{ExprTree, Assign, Cond, Binary, Instance, Unary, Cast, Postfix, Lit, This, Paren, Name, Call, Field, Super, New, Index, NewArray, NewInit}
-use Rattle.rf_jfit.specs.ExprTrees.{OnTree, NoOn, On}
+use Rattle.rf_jtree.specs.ExprTrees.{ExprTree, Assign, Cond, Binary, Instance, Unary, Cast, Postfix, Lit, This, Paren, Name, Call, Field, Super, New, Index, NewArray, NewInit}
+use Rattle.rf_jtree.specs.ExprTrees.{OnTree, NoOn, On}
 
 abbrev mutual
   pub expr_first : ExprTree → Tok

@@ -1,16 +1,1 @@
-pub mod DeclFits
-pub mod DeclShown
-pub mod DeclTrees
 pub mod ExprFirst
-pub mod ExprFits
-pub mod ExprShown
-pub mod ExprTrees
-pub mod Kinds
-pub mod Levels
-pub mod NameFits
-pub mod NameShown
-pub mod NameTrees
-pub mod Spelling
-pub mod StmtFits
-pub mod StmtShown
-pub mod StmtTrees

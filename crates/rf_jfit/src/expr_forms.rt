@@ -1,22 +1,23 @@
 ghost use Rattle.std.specs.Prelude.{◌≡◌, ◌↔◌, IsTrue};
 ghost use Rattle.rf_jfit.specs.ExprFirst.{expr_first};
-ghost use Rattle.rf_jfit.specs.ExprFits.{IsLeftSide, begins_operand, CastTakes, IsNoName, IsNoNewArray, HasBrackets};
-ghost use Rattle.rf_jfit.specs.ExprTrees.{expr_yield};
-ghost use Rattle.rf_jfit.specs.ExprShown.{expr_shown};
-ghost use Rattle.rf_jfit.specs.Levels.{expr_level, BindsAt};
-ghost use Rattle.rf_jfit.specs.NameShown.{type_shown};
+ghost use Rattle.rf_jtree.specs.ExprFits.{IsLeftSide, begins_operand, CastTakes, IsNoName, IsNoNewArray, HasBrackets};
+ghost use Rattle.rf_jtree.specs.ExprTrees.{expr_yield};
+ghost use Rattle.rf_jtree.specs.ExprShown.{expr_shown};
+ghost use Rattle.rf_jtree.specs.Levels.{expr_level, BindsAt};
+ghost use Rattle.rf_jtree.specs.NameShown.{type_shown};
 
 use crate::kinds::{has_key, has_op};
-use crate::levels::{
+use crate::levels::binary_level;
+use rf_jtree::keyword_names::OPERAND_WORDS;
+use rf_jtree::levels::{
     ASSIGNMENT_LEVEL, COMPARISON_LEVEL, CONDITIONAL_LEVEL, POSTFIX_LEVEL, PRIMARY_LEVEL,
-    UNARY_LEVEL, binary_level,
+    UNARY_LEVEL,
 };
-use crate::operators::OPERAND_OPERATORS;
-use crate::words::OPERAND_WORDS;
+use rf_jtree::operator_names::OPERAND_OPERATORS;
 use rf_jtree::{Expr, Tok, TokKind, TypeBase, TypeUse};
 
 /// How tightly an expression binds.
-#[tactic(auto, using(crate::proofs::ExprShows::expr_shows))]
+#[tactic(auto, using(rf_jtree::proofs::ExprShows::expr_shows))]
 pub fn expr_level(expr: &Expr) -> usize
     ensures { result ≡ expr_level (expr_shown expr.now) }
 {
@@ -49,7 +50,7 @@ pub fn binds_at(level: usize, expr: &Expr) -> bool
 }
 
 /// Whether an expression may stand on the left side of an assignment.
-#[tactic(auto, using(crate::proofs::ExprShows::expr_shows))]
+#[tactic(auto, using(rf_jtree::proofs::ExprShows::expr_shows))]
 pub fn is_left_side(expr: &Expr) -> bool
     ensures { IsTrue result ↔ IsLeftSide (expr_shown expr.now) }
 {
@@ -74,7 +75,7 @@ pub fn is_left_side(expr: &Expr) -> bool
 }
 
 /// Whether an expression is none that takes a field behind it into its name.
-#[tactic(auto, using(crate::proofs::ExprShows::expr_shows))]
+#[tactic(auto, using(rf_jtree::proofs::ExprShows::expr_shows))]
 pub fn is_no_name(expr: &Expr) -> bool
     ensures { IsTrue result ↔ IsNoName (expr_shown expr.now) }
 {
@@ -101,7 +102,7 @@ pub fn is_no_name(expr: &Expr) -> bool
 }
 
 /// Whether an expression is none that takes the brackets behind it.
-#[tactic(auto, using(crate::proofs::ExprShows::expr_shows))]
+#[tactic(auto, using(rf_jtree::proofs::ExprShows::expr_shows))]
 pub fn is_no_new_array(expr: &Expr) -> bool
     ensures { IsTrue result ↔ IsNoNewArray (expr_shown expr.now) }
 {
@@ -128,7 +129,7 @@ pub fn is_no_new_array(expr: &Expr) -> bool
 }
 
 /// The token that an expression begins with.
-#[tactic(auto, using(crate::proofs::ExprShows::expr_shows))]
+#[tactic(auto, using(rf_jtree::proofs::ExprShows::expr_shows))]
 pub fn expr_first(expr: &Expr) -> &Tok
     ensures { result.now ≡ expr_first (expr_shown expr.now) }
 {

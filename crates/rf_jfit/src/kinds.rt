@@ -1,5 +1,5 @@
 ghost use Rattle.std.specs.Prelude.{◌≡◌, ◌↔◌, IsTrue};
-ghost use Rattle.rf_jfit.specs.Kinds.{IsOp, IsKey, IsIdent, IsStr, is_op_of, has_op, is_key_of, has_key, is_literal};
+ghost use Rattle.rf_jtree.specs.Kinds.{IsOp, IsKey, IsIdent, IsStr, is_op_of, has_op, is_key_of, has_key, is_literal};
 
 use rf_jtree::{Kw, Op, Tok, TokKind};
 

@@ -1,12 +1,10 @@
-//! When a tree of Java fits: each node is one of the grammar's forms, and the further conditions of the language hold.
+//! Tests of tokens and forms that the parsers ask, exact over the definition of trees that fit.
 #![tactic(auto)]
 
 mod expr_forms;
 mod kinds;
 pub mod levels;
-pub mod operators;
 mod stmt_forms;
-pub mod words;
 
 pub use expr_forms::{
     begins_operand, binds_at, expr_first, expr_level, is_left_side, is_no_name, is_no_new_array,

@@ -1,14 +1,14 @@
 ghost use Rattle.std.specs.Prelude.{◌≡◌, ◌↔◌, IsTrue};
-ghost use Rattle.rf_jfit.specs.ExprShown.{expr_shown, exprs_shown, more_exprs_shown};
-ghost use Rattle.rf_jfit.specs.StmtFits.{IsNoLocal, IsStatementExpr, AreStatementExprs, AreMoreStatementExprs, ends_open, IsNearestIf, HasCatchOrLast};
-ghost use Rattle.rf_jfit.specs.StmtShown.{stmt_shown, other_shown, catches_shown, last_shown};
+ghost use Rattle.rf_jtree.specs.ExprShown.{expr_shown, exprs_shown, more_exprs_shown};
+ghost use Rattle.rf_jtree.specs.StmtFits.{IsNoLocal, IsStatementExpr, AreStatementExprs, AreMoreStatementExprs, ends_open, IsNearestIf, HasCatchOrLast};
+ghost use Rattle.rf_jtree.specs.StmtShown.{stmt_shown, other_shown, catches_shown, last_shown};
 
 use crate::kinds::is_op_of;
-use crate::operators::SUFFIXES;
+use rf_jtree::operator_names::SUFFIXES;
 use rf_jtree::{Block, Catch, Expr, Many, Stmt, Tok};
 
 /// Whether a statement is no local declaration.
-#[tactic(auto, using(crate::proofs::StmtShows::stmt_shows))]
+#[tactic(auto, using(rf_jtree::proofs::StmtShows::stmt_shows))]
 pub fn is_no_local(stmt: &Stmt) -> bool
     ensures { IsTrue result ↔ IsNoLocal (stmt_shown stmt.now) }
 {
@@ -34,7 +34,7 @@ pub fn is_no_local(stmt: &Stmt) -> bool
 }
 
 /// Whether an expression may stand as a statement.
-#[tactic(auto, using(crate::proofs::ExprShows::expr_shows))]
+#[tactic(auto, using(rf_jtree::proofs::ExprShows::expr_shows))]
 pub fn is_statement_expr(expr: &Expr) -> bool
     ensures { IsTrue result ↔ IsStatementExpr (expr_shown expr.now) }
 {
@@ -81,7 +81,7 @@ pub fn are_statement_exprs(exprs: &Option<Many<Expr>>) -> bool
 }
 
 /// Whether an `else` behind the statement would go on with it.
-#[tactic(auto, using(crate::proofs::StmtShows::stmt_shows))]
+#[tactic(auto, using(rf_jtree::proofs::StmtShows::stmt_shows))]
 pub fn ends_open(stmt: &Stmt) -> bool
     ensures { result ≡ ends_open (stmt_shown stmt.now) }
 {

@@ -2,7 +2,7 @@
 use Rattle.std.proofs.Common.{ℕ, List, Result, Ok, Err, drop}
 use Rattle.rf_jtree.specs.declared.stmts.Stmt.{Stmt}
 use Rattle.rf_jtree.specs.declared.tokens.Tok.{Tok}
-use Rattle.rf_jfit.specs.StmtShown.{stmt_shown}
+use Rattle.rf_jtree.specs.StmtShown.{stmt_shown}
 use Rattle.rf_jexpr.specs.declared.parse_err.ParseErr.{ParseErr}
 use Rattle.rf_jexpr.specs.declared.parse_err.ParseErr.TheVariants.{NoTree, Memory}
 use Rattle.rf_jstmt.specs.BlockAt.{IsLongestBlock}

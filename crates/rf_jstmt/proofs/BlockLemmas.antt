@@ -1,8 +1,8 @@
 -- The block that is read is the longest one, there is none where none is read, and no two blocks have the same tokens.
 use Rattle.std.proofs.Common.{◌≡◌, ℕ, zero, suc, ◌+◌, ◌-◌, ◌≤◌, max, List, [], ◌++◌, Option, Some, None, drop, length, refl, ap, ◌∙◌, sym, arith, length-drop}
 use Rattle.rf_jtree.specs.declared.tokens.Tok.{Tok}
-use Rattle.rf_jfit.specs.StmtFits.{StmtFits, BlockFits}
-use Rattle.rf_jfit.specs.StmtTrees.{StmtTree, Block, BlockTree, stmt_yield, block_yield, stmt_depth, block_depth}
+use Rattle.rf_jtree.specs.StmtFits.{StmtFits, BlockFits}
+use Rattle.rf_jtree.specs.StmtTrees.{StmtTree, Block, BlockTree, stmt_yield, block_yield, stmt_depth, block_depth}
 use Rattle.rf_jexpr.proofs.LoopLemmas.{IsSound}
 use Rattle.rf_jexpr.proofs.Tools.{by_some}
 use Rattle.rf_jstmt.specs.BlockAt.{IsBlock, IsBlockAt, NoBlockIsLonger, NoBlockStands}

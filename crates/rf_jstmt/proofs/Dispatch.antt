@@ -5,13 +5,13 @@ use Rattle.rf_jtree.specs.declared.tokens.Tok.{Tok}
 use Rattle.rf_jtree.specs.declared.tokens.TokKind.{TokKind}
 use Rattle.rf_jtree.specs.declared.tokens.TokKind.TheVariants as kind
 use Rattle.rf_jtree.specs.declared.words.Kw.{Kw}
-use Rattle.rf_jfit.specs.declared.operators.TheConstants.{LEFT_BRACE, RIGHT_BRACE, SEMICOLON, COLON, AT, DOT, LEFT_BRACKET}
-use Rattle.rf_jfit.specs.declared.words.TheConstants.{ASSERT, BREAK, CASE, CONTINUE, DEFAULT, DO, FINAL, FOR, IF, RETURN, SWITCH, SYNCHRONIZED, THROW, TRY, WHILE, PRIMITIVES, OPERAND_WORDS}
+use Rattle.rf_jtree.specs.declared.operator_names.TheConstants.{LEFT_BRACE, RIGHT_BRACE, SEMICOLON, COLON, AT, DOT, LEFT_BRACKET}
+use Rattle.rf_jtree.specs.declared.keyword_names.TheConstants.{ASSERT, BREAK, CASE, CONTINUE, DEFAULT, DO, FINAL, FOR, IF, RETURN, SWITCH, SYNCHRONIZED, THROW, TRY, WHILE, PRIMITIVES, OPERAND_WORDS}
 use Rattle.rf_jfit.specs.ExprFirst.{expr_first}
-use Rattle.rf_jfit.specs.ExprFits.{ExprFits, IsNoName}
-use Rattle.rf_jfit.specs.ExprTrees.{ExprTree, Name, expr_yield}
-use Rattle.rf_jfit.specs.Kinds.{IsOp, IsKey, IsIdent, is_key_of, has_key}
-use Rattle.rf_jfit.specs.StmtFits.{IsStatementExpr}
+use Rattle.rf_jtree.specs.ExprFits.{ExprFits, IsNoName}
+use Rattle.rf_jtree.specs.ExprTrees.{ExprTree, Name, expr_yield}
+use Rattle.rf_jtree.specs.Kinds.{IsOp, IsKey, IsIdent, is_key_of, has_key}
+use Rattle.rf_jtree.specs.StmtFits.{IsStatementExpr}
 use Rattle.rf_jexpr.specs.NameReads.{name, primitive, named_type, type_base, type_use}
 use Rattle.rf_jexpr.specs.PartReads.{Parsers}
 use Rattle.rf_jexpr.specs.Reads.{and_then, when, is_op, is_key, is_ident, begins, token, separated}

@@ -2,10 +2,10 @@
 use Rattle.std.proofs.Common.{◌≡◌, ℕ, ◌+◌, ◌<◌, List, Option, Some, None, Bool, true, false, length, drop, refl, sym, ◌∙◌, arith}
 use Rattle.std.specs.List.{slice_get}
 use Rattle.rf_jtree.specs.declared.tokens.Tok.{Tok}
-use Rattle.rf_jfit.specs.declared.operators.TheConstants.{DOT}
-use Rattle.rf_jfit.specs.declared.words.TheConstants.{PRIMITIVES}
-use Rattle.rf_jfit.specs.Kinds.{is_key_of}
-use Rattle.rf_jfit.specs.NameTrees.{Prim, Named}
+use Rattle.rf_jtree.specs.declared.operator_names.TheConstants.{DOT}
+use Rattle.rf_jtree.specs.declared.keyword_names.TheConstants.{PRIMITIVES}
+use Rattle.rf_jtree.specs.Kinds.{is_key_of}
+use Rattle.rf_jtree.specs.NameTrees.{Prim, Named}
 use Rattle.rf_jexpr.specs.NameReads.{name, brackets, dims, primitive, named_type, type_base, type_use}
 use Rattle.rf_jexpr.specs.Reads.{and_then, begins, is_op, is_ident, token, many, behind, separated}
 use Rattle.rf_jexpr.proofs.CursorLemmas.{begins-Some, token-Some}

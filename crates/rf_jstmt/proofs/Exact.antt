@@ -1,12 +1,12 @@
 -- Each statement that fits and is no deeper than the room is read where it stands, in each room.
 use Rattle.std.proofs.Common.{◌≡◌, ℕ, zero, suc, ◌+◌, ◌≤◌, List, [], ◌∷◌, ◌++◌, Some, false, IsTrue, inl, inr, refl, ◌∙◌, sym, subst, arith, append_assoc}
 use Rattle.rf_jtree.specs.declared.tokens.Tok.{Tok}
-use Rattle.rf_jfit.specs.declared.operators.TheConstants.{LEFT_BRACE, SEMICOLON}
-use Rattle.rf_jfit.specs.declared.words.TheConstants.{ASSERT, BREAK, CONTINUE, DO, FOR, IF, RETURN, SWITCH, SYNCHRONIZED, THROW, TRY, WHILE}
-use Rattle.rf_jfit.specs.ExprTrees.{expr_yield}
-use Rattle.rf_jfit.specs.Kinds.{IsOp}
-use Rattle.rf_jfit.specs.StmtFits.{IsNoLocal, StmtFits, BlockFits}
-use Rattle.rf_jfit.specs.StmtTrees.{LocalTree, StmtTree, Block, Empty, Label, Value, If, While, Do, For, Each, Switch, Jump, Return, Throw, Sync, Assert, Try, BlockTree, Braces, local_yield, stmt_yield, block_yield, local_depth, stmt_depth, block_depth}
+use Rattle.rf_jtree.specs.declared.operator_names.TheConstants.{LEFT_BRACE, SEMICOLON}
+use Rattle.rf_jtree.specs.declared.keyword_names.TheConstants.{ASSERT, BREAK, CONTINUE, DO, FOR, IF, RETURN, SWITCH, SYNCHRONIZED, THROW, TRY, WHILE}
+use Rattle.rf_jtree.specs.ExprTrees.{expr_yield}
+use Rattle.rf_jtree.specs.Kinds.{IsOp}
+use Rattle.rf_jtree.specs.StmtFits.{IsNoLocal, StmtFits, BlockFits}
+use Rattle.rf_jtree.specs.StmtTrees.{LocalTree, StmtTree, Block, Empty, Label, Value, If, While, Do, For, Each, Switch, Jump, Return, Throw, Sync, Assert, Try, BlockTree, Braces, local_yield, stmt_yield, block_yield, local_depth, stmt_depth, block_depth}
 use Rattle.rf_jexpr.specs.Descent.{parsers}
 use Rattle.rf_jexpr.specs.PartReads.{Parsers}
 use Rattle.rf_jexpr.specs.Reads.{is_op}

@@ -1,14 +1,14 @@
 -- Statements without lists are read where they stand.
 use Rattle.std.proofs.Common.{◌≡◌, ℕ, suc, ◌≤◌, List, ◌∷◌, ◌++◌, Option, Some, None, Bool, true, false, not, IsTrue, IfSome, ◌⊎◌, inl, inr, refl, ◌∙◌, arith, append_assoc}
 use Rattle.rf_jtree.specs.declared.tokens.Tok.{Tok}
-use Rattle.rf_jfit.specs.declared.levels.TheConstants.{ASSIGNMENT_LEVEL}
-use Rattle.rf_jfit.specs.declared.operators.TheConstants.{SEMICOLON, COLON}
-use Rattle.rf_jfit.specs.declared.words.TheConstants.{ASSERT, BREAK, CONTINUE, DO, ELSE, IF, RETURN, SYNCHRONIZED, THROW, WHILE}
-use Rattle.rf_jfit.specs.ExprTrees.{ExprTree, expr_yield, expr_depth}
-use Rattle.rf_jfit.specs.Kinds.{IsOp, IsKey, IsIdent}
-use Rattle.rf_jfit.specs.NameTrees.{option_yield, tok_yield, behind_yield, option_depth}
-use Rattle.rf_jfit.specs.StmtFits.{EndsOpen, ends_open, IsNearestIf, MessageFits, StmtFits, OtherFits, BlockFits}
-use Rattle.rf_jfit.specs.StmtTrees.{StmtTree, Block, Empty, Label, Value, If, While, Do, Jump, Return, Throw, Sync, Assert, OtherTree, NoOther, Other, BlockTree, stmt_yield, other_yield, block_yield, stmt_depth, other_depth, block_depth}
+use Rattle.rf_jtree.specs.declared.levels.TheConstants.{ASSIGNMENT_LEVEL}
+use Rattle.rf_jtree.specs.declared.operator_names.TheConstants.{SEMICOLON, COLON}
+use Rattle.rf_jtree.specs.declared.keyword_names.TheConstants.{ASSERT, BREAK, CONTINUE, DO, ELSE, IF, RETURN, SYNCHRONIZED, THROW, WHILE}
+use Rattle.rf_jtree.specs.ExprTrees.{ExprTree, expr_yield, expr_depth}
+use Rattle.rf_jtree.specs.Kinds.{IsOp, IsKey, IsIdent}
+use Rattle.rf_jtree.specs.NameTrees.{option_yield, tok_yield, behind_yield, option_depth}
+use Rattle.rf_jtree.specs.StmtFits.{EndsOpen, ends_open, IsNearestIf, MessageFits, StmtFits, OtherFits, BlockFits}
+use Rattle.rf_jtree.specs.StmtTrees.{StmtTree, Block, Empty, Label, Value, If, While, Do, Jump, Return, Throw, Sync, Assert, OtherTree, NoOther, Other, BlockTree, stmt_yield, other_yield, block_yield, stmt_depth, other_depth, block_depth}
 use Rattle.rf_jexpr.specs.PartReads.{Parsers}
 use Rattle.rf_jexpr.specs.Reads.{is_op, is_key, is_ident, begins, token, optional, behind}
 use Rattle.rf_jexpr.proofs.LoopLemmas.{behind-exact}

@@ -2,17 +2,17 @@
 use Rattle.std.proofs.Common.{◌≡◌, ℕ, ◌≤◌, List, [], ◌∷◌, ◌++◌, Option, Some, None, false, IsTrue, IfSome, length, refl, ap, ◌∙◌, sym, subst, arith, append_assoc}
 use Rattle.std.specs.List.{flat_map}
 use Rattle.rf_jtree.specs.declared.tokens.Tok.{Tok}
-use Rattle.rf_jfit.specs.declared.operators.TheConstants.{LEFT_PAREN, RIGHT_PAREN, LEFT_BRACE, RIGHT_BRACE, SEMICOLON, COLON, DOT}
-use Rattle.rf_jfit.specs.declared.words.TheConstants.{CASE, CATCH, DEFAULT, FINAL, FINALLY, FOR, SWITCH, TRY}
-use Rattle.rf_jfit.specs.ExprFits.{ExprFits, ExprsFit}
-use Rattle.rf_jfit.specs.ExprTrees.{ExprTree, ExprsTree, NoExprs, Exprs, expr_yield, exprs_yield, expr_depth, exprs_depth}
-use Rattle.rf_jfit.specs.Kinds.{IsOp, IsKey, IsIdent}
-use Rattle.rf_jfit.specs.NameFits.{EachFits, NameFits}
-use Rattle.rf_jfit.specs.NameTrees.{NameTree, ModTree, TypeUseTree, tok_yield, name_yield, type_yield, mods_yield, option_yield, option_depth}
-use Rattle.rf_jfit.specs.StmtFits.{AreStatementExprs, IsFor, StmtFits, GroupsFit, CatchesFit, LastFits}
-use Rattle.rf_jfit.specs.StmtShown.{groups_tree, catches_tree}
-use Rattle.rf_jfit.specs.StmtTrees.{ForFirstTree, StmtTree, For, Each, Switch, Try, GroupTree, Group, GroupsTree, NoGroups, Groups, CatchTree, Catch, CatchesTree, NoCatches, Catches, LastTree, NoLast, Last, BlockTree}
-use Rattle.rf_jfit.specs.StmtTrees.{local_yield, stmt_yield, block_yield, stmts_yield, group_yield, groups_yield, catch_yield, catches_yield, last_yield, stmt_depth, stmts_depth, group_depth, groups_depth, catches_depth, last_depth}
+use Rattle.rf_jtree.specs.declared.operator_names.TheConstants.{LEFT_PAREN, RIGHT_PAREN, LEFT_BRACE, RIGHT_BRACE, SEMICOLON, COLON, DOT}
+use Rattle.rf_jtree.specs.declared.keyword_names.TheConstants.{CASE, CATCH, DEFAULT, FINAL, FINALLY, FOR, SWITCH, TRY}
+use Rattle.rf_jtree.specs.ExprFits.{ExprFits, ExprsFit}
+use Rattle.rf_jtree.specs.ExprTrees.{ExprTree, ExprsTree, NoExprs, Exprs, expr_yield, exprs_yield, expr_depth, exprs_depth}
+use Rattle.rf_jtree.specs.Kinds.{IsOp, IsKey, IsIdent}
+use Rattle.rf_jtree.specs.NameFits.{EachFits, NameFits}
+use Rattle.rf_jtree.specs.NameTrees.{NameTree, ModTree, TypeUseTree, tok_yield, name_yield, type_yield, mods_yield, option_yield, option_depth}
+use Rattle.rf_jtree.specs.StmtFits.{AreStatementExprs, IsFor, StmtFits, GroupsFit, CatchesFit, LastFits}
+use Rattle.rf_jtree.specs.StmtShown.{groups_tree, catches_tree}
+use Rattle.rf_jtree.specs.StmtTrees.{ForFirstTree, StmtTree, For, Each, Switch, Try, GroupTree, Group, GroupsTree, NoGroups, Groups, CatchTree, Catch, CatchesTree, NoCatches, Catches, LastTree, NoLast, Last, BlockTree}
+use Rattle.rf_jtree.specs.StmtTrees.{local_yield, stmt_yield, block_yield, stmts_yield, group_yield, groups_yield, catch_yield, catches_yield, last_yield, stmt_depth, stmts_depth, group_depth, groups_depth, catches_depth, last_depth}
 use Rattle.rf_jexpr.specs.PartReads.{Parsers}
 use Rattle.rf_jexpr.specs.Reads.{is_op, is_key, is_ident, begins, token, optional, many}
 use Rattle.rf_jexpr.proofs.CompleteNames.{Anything, name-exact}

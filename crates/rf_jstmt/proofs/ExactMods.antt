@@ -5,12 +5,12 @@ use Rattle.rf_jtree.specs.declared.tokens.Tok.{Tok}
 use Rattle.rf_jtree.specs.declared.tokens.TokKind.{TokKind}
 use Rattle.rf_jtree.specs.declared.tokens.TokKind.TheVariants as kind
 use Rattle.rf_jtree.specs.declared.words.Kw.{Kw}
-use Rattle.rf_jfit.specs.declared.operators.TheConstants.{LEFT_PAREN, RIGHT_PAREN, LEFT_BRACE, RIGHT_BRACE, COMMA, AT}
-use Rattle.rf_jfit.specs.declared.words.TheConstants.{MODIFIERS, PRIMITIVES}
-use Rattle.rf_jfit.specs.Kinds.{IsOp, IsIdent, IsStr, is_key_of, has_key}
-use Rattle.rf_jfit.specs.NameFits.{EachFits, ManyFit, ParensFit, StrsFit, ModFits, IsMarkName, TypeFits, BaseFits}
-use Rattle.rf_jfit.specs.NameTrees.{ManyTree, One, Braced, ModTree, Word, Mark, Suppress, TypeBaseTree, Prim, Named, TypeUseTree, tok_yield, pair_yield, option_yield, many_yield, strs_yield, mod_yield, mods_yield, base_yield, type_yield, dims_yield}
-use Rattle.rf_jfit.specs.StmtFits.{VariableModsFit}
+use Rattle.rf_jtree.specs.declared.operator_names.TheConstants.{LEFT_PAREN, RIGHT_PAREN, LEFT_BRACE, RIGHT_BRACE, COMMA, AT}
+use Rattle.rf_jtree.specs.declared.keyword_names.TheConstants.{MODIFIERS, PRIMITIVES}
+use Rattle.rf_jtree.specs.Kinds.{IsOp, IsIdent, IsStr, is_key_of, has_key}
+use Rattle.rf_jtree.specs.NameFits.{EachFits, ManyFit, ParensFit, StrsFit, ModFits, IsMarkName, TypeFits, BaseFits}
+use Rattle.rf_jtree.specs.NameTrees.{ManyTree, One, Braced, ModTree, Word, Mark, Suppress, TypeBaseTree, Prim, Named, TypeUseTree, tok_yield, pair_yield, option_yield, many_yield, strs_yield, mod_yield, mods_yield, base_yield, type_yield, dims_yield}
+use Rattle.rf_jtree.specs.StmtFits.{VariableModsFit}
 use Rattle.rf_jexpr.specs.Reads.{is_op, is_ident, begins, token, optional, behind, separated}
 use Rattle.rf_jexpr.proofs.CompleteNames.{Anything}
 use Rattle.rf_jexpr.proofs.LoopLemmas.{IsExact, many-exact, separated-exact}

@@ -3,17 +3,17 @@ use Rattle.std.proofs.Common.{◌≡◌, ℕ, ◌≤◌, List, [], ◌∷◌, �
 use Rattle.std.specs.List.{flat_map}
 use Rattle.rf_jtree.specs.declared.tokens.Tok.{Tok}
 use Rattle.rf_jtree.specs.declared.words.Kw.{Kw}
-use Rattle.rf_jfit.specs.declared.levels.TheConstants.{ASSIGNMENT_LEVEL}
-use Rattle.rf_jfit.specs.declared.operators.TheConstants.{LEFT_PAREN, RIGHT_PAREN, LEFT_BRACE, RIGHT_BRACE, COMMA, SEMICOLON}
-use Rattle.rf_jfit.specs.ExprFits.{ExprFits, MoreExprsFit}
-use Rattle.rf_jfit.specs.ExprShown.{more_exprs_tree}
-use Rattle.rf_jfit.specs.ExprTrees.{ExprTree, ExprsTree, NoExprs, Exprs, MoreExprsTree, NoMoreExprs, MoreExprs, expr_yield, exprs_yield, expr_depth, exprs_depth, more_exprs_depth}
-use Rattle.rf_jfit.specs.Kinds.{IsOp}
-use Rattle.rf_jfit.specs.NameFits.{EachFits}
-use Rattle.rf_jfit.specs.NameTrees.{ManyTree, option_yield, many_yield}
-use Rattle.rf_jfit.specs.StmtFits.{IsHead, StmtsFit}
-use Rattle.rf_jfit.specs.StmtShown.{stmts_tree}
-use Rattle.rf_jfit.specs.StmtTrees.{StmtTree, Braces, StmtsTree, NoStmts, Stmts, stmt_yield, block_yield, stmts_yield, stmts_depth}
+use Rattle.rf_jtree.specs.declared.levels.TheConstants.{ASSIGNMENT_LEVEL}
+use Rattle.rf_jtree.specs.declared.operator_names.TheConstants.{LEFT_PAREN, RIGHT_PAREN, LEFT_BRACE, RIGHT_BRACE, COMMA, SEMICOLON}
+use Rattle.rf_jtree.specs.ExprFits.{ExprFits, MoreExprsFit}
+use Rattle.rf_jtree.specs.ExprShown.{more_exprs_tree}
+use Rattle.rf_jtree.specs.ExprTrees.{ExprTree, ExprsTree, NoExprs, Exprs, MoreExprsTree, NoMoreExprs, MoreExprs, expr_yield, exprs_yield, expr_depth, exprs_depth, more_exprs_depth}
+use Rattle.rf_jtree.specs.Kinds.{IsOp}
+use Rattle.rf_jtree.specs.NameFits.{EachFits}
+use Rattle.rf_jtree.specs.NameTrees.{ManyTree, option_yield, many_yield}
+use Rattle.rf_jtree.specs.StmtFits.{IsHead, StmtsFit}
+use Rattle.rf_jtree.specs.StmtShown.{stmts_tree}
+use Rattle.rf_jtree.specs.StmtTrees.{StmtTree, Braces, StmtsTree, NoStmts, Stmts, stmt_yield, block_yield, stmts_yield, stmts_depth}
 use Rattle.rf_jexpr.specs.PartReads.{Parsers, exprs_of}
 use Rattle.rf_jexpr.specs.Reads.{is_op, is_key, begins, behind}
 use Rattle.rf_jexpr.specs.Stops.{Stops, begins_expr}

@@ -2,15 +2,15 @@
 use Rattle.std.proofs.Common.{◌≡◌, ℕ, ◌≤◌, List, [], ◌∷◌, ◌++◌, Option, Some, None, Bool, true, false, ◌&&◌, IsTrue, IfSome, refl, ◌∙◌, sym, subst, arith, append_assoc}
 use Rattle.std.specs.List.{flat_map}
 use Rattle.rf_jtree.specs.declared.tokens.Tok.{Tok}
-use Rattle.rf_jfit.specs.declared.levels.TheConstants.{ASSIGNMENT_LEVEL}
-use Rattle.rf_jfit.specs.declared.operators.TheConstants.{LEFT_BRACKET, SEMICOLON, COMMA, COLON, DOT, ASSIGN, AT}
-use Rattle.rf_jfit.specs.declared.words.TheConstants.{FINAL}
-use Rattle.rf_jfit.specs.ExprTrees.{InitTree, expr_yield, init_yield, init_depth}
-use Rattle.rf_jfit.specs.Kinds.{IsOp, IsIdent}
-use Rattle.rf_jfit.specs.NameFits.{EachFits, ManyFit, ModFits, BaseFits, BracketsFit, TypeFits}
-use Rattle.rf_jfit.specs.NameTrees.{ManyTree, ModTree, Word, Mark, Suppress, TypeBaseTree, Prim, Named, TypeUseTree, base_yield, type_yield, dims_yield, pair_yield, mod_yield, mods_yield, option_yield, many_yield, behind_yield, option_depth, many_depth, list_depth}
-use Rattle.rf_jfit.specs.StmtFits.{IsFinalOrAnnotation, VariableModsFit, BeginningFits, VarFits}
-use Rattle.rf_jfit.specs.StmtTrees.{VarTree, LocalTree, var_yield, var_depth}
+use Rattle.rf_jtree.specs.declared.levels.TheConstants.{ASSIGNMENT_LEVEL}
+use Rattle.rf_jtree.specs.declared.operator_names.TheConstants.{LEFT_BRACKET, SEMICOLON, COMMA, COLON, DOT, ASSIGN, AT}
+use Rattle.rf_jtree.specs.declared.keyword_names.TheConstants.{FINAL}
+use Rattle.rf_jtree.specs.ExprTrees.{InitTree, expr_yield, init_yield, init_depth}
+use Rattle.rf_jtree.specs.Kinds.{IsOp, IsIdent}
+use Rattle.rf_jtree.specs.NameFits.{EachFits, ManyFit, ModFits, BaseFits, BracketsFit, TypeFits}
+use Rattle.rf_jtree.specs.NameTrees.{ManyTree, ModTree, Word, Mark, Suppress, TypeBaseTree, Prim, Named, TypeUseTree, base_yield, type_yield, dims_yield, pair_yield, mod_yield, mods_yield, option_yield, many_yield, behind_yield, option_depth, many_depth, list_depth}
+use Rattle.rf_jtree.specs.StmtFits.{IsFinalOrAnnotation, VariableModsFit, BeginningFits, VarFits}
+use Rattle.rf_jtree.specs.StmtTrees.{VarTree, LocalTree, var_yield, var_depth}
 use Rattle.rf_jexpr.specs.Descent.{parsers}
 use Rattle.rf_jexpr.specs.NameReads.{type_use}
 use Rattle.rf_jexpr.specs.PartReads.{Parsers}

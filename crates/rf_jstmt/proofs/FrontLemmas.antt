@@ -3,9 +3,9 @@ use Rattle.std.proofs.Common.{◌≡◌, List, [], ◌∷◌, Some, None, Bool, 
 use Rattle.rf_jtree.specs.declared.tokens.Tok.{Tok}
 use Rattle.rf_jexpr.specs.Reads.{begins, is_ident, is_key, is_op, token, when}
 use Rattle.rf_jexpr.proofs.Tools.{token_takes, holds, fails, whether}
-use Rattle.rf_jfit.specs.Kinds.{is_key_of}
-use Rattle.rf_jfit.specs.declared.words.TheConstants.{FINAL, PRIMITIVES}
-use Rattle.rf_jfit.specs.declared.operators.TheConstants.{COLON, AT}
+use Rattle.rf_jtree.specs.Kinds.{is_key_of}
+use Rattle.rf_jtree.specs.declared.keyword_names.TheConstants.{FINAL, PRIMITIVES}
+use Rattle.rf_jtree.specs.declared.operator_names.TheConstants.{COLON, AT}
 use Rattle.rf_jstmt.specs.VarReads.{begins_label, marks_local}
 
 label_parts : (toks : List Tok) → begins is_ident toks && begins (is_op COLON) (drop 1 toks) ≡ begins_label toks

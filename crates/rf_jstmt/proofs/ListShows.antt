@@ -3,10 +3,10 @@ use Rattle.std.proofs.Common.{◌≡◌, ◌≤◌, max, List, [], ◌∷◌, le
 use Rattle.rf_jtree.specs.declared.stmts.Catch.{Catch}
 use Rattle.rf_jtree.specs.declared.stmts.Group.{Group}
 use Rattle.rf_jtree.specs.declared.stmts.Stmt.{Stmt}
-use Rattle.rf_jfit.specs.NameTrees.{list_depth}
-use Rattle.rf_jfit.specs.StmtShown.{stmt_shown, group_shown, catch_shown, stmts_tree, groups_tree, catches_tree, stmts_shown, groups_shown, catches_shown}
-use Rattle.rf_jfit.specs.StmtTrees.{StmtTree, GroupTree, CatchTree, LastTree, stmt_depth, group_depth, catch_depth, stmts_depth, groups_depth, catches_depth}
-use Rattle.rf_jfit.specs.StmtTrees as t
+use Rattle.rf_jtree.specs.NameTrees.{list_depth}
+use Rattle.rf_jtree.specs.StmtShown.{stmt_shown, group_shown, catch_shown, stmts_tree, groups_tree, catches_tree, stmts_shown, groups_shown, catches_shown}
+use Rattle.rf_jtree.specs.StmtTrees.{StmtTree, GroupTree, CatchTree, LastTree, stmt_depth, group_depth, catch_depth, stmts_depth, groups_depth, catches_depth}
+use Rattle.rf_jtree.specs.StmtTrees as t
 use Rattle.rf_jstmt.specs.StmtReads.{has_part}
 
 pub stmts-shown : (list : List Stmt) → stmts_tree (map stmt_shown list) ≡ stmts_shown list

@@ -5,8 +5,8 @@ use Rattle.rf_jtree.specs.declared.tokens.Tok.{Tok}
 use Rattle.rf_jtree.specs.declared.tokens.TokKind.{TokKind}
 use Rattle.rf_jtree.specs.declared.tokens.TokKind.TheVariants as kind
 use Rattle.rf_jtree.specs.declared.words.Kw.{Kw}
-use Rattle.rf_jfit.specs.declared.words.TheConstants.{MODIFIERS}
-use Rattle.rf_jfit.specs.Kinds.{IsStr, is_literal, is_key_of}
+use Rattle.rf_jtree.specs.declared.keyword_names.TheConstants.{MODIFIERS}
+use Rattle.rf_jtree.specs.Kinds.{IsStr, is_literal, is_key_of}
 use Rattle.rf_jexpr.specs.Reads.{and_then, when, is_ident, is_key, begins, token}
 use Rattle.rf_jexpr.proofs.CursorLemmas.{same_tests, begins-Some, begins-None, token-Some}
 use Rattle.rf_jexpr.proofs.Tools.{holds, fails, whether, both, token_takes, IsKey-is_key}

@@ -1,11 +1,11 @@
 -- Which tokens go on with a statement, and which don't.
 use Rattle.std.proofs.Common.{◌≡◌, List, [], ◌∷◌, Bool, true, false, ◌||◌, IsTrue, inl, inr, refl}
 use Rattle.rf_jtree.specs.declared.tokens.Tok.{Tok}
-use Rattle.rf_jfit.specs.declared.operators.TheConstants.{RIGHT_BRACE}
-use Rattle.rf_jfit.specs.declared.words.TheConstants.{CASE, CATCH, DEFAULT, ELSE, FINALLY}
-use Rattle.rf_jfit.specs.Kinds.{IsOp, IsKey}
-use Rattle.rf_jfit.specs.StmtFits.{EndsOpen, ends_open, other_ends_open}
-use Rattle.rf_jfit.specs.StmtTrees.{StmtTree, Label, If, While, For, Each, Try, OtherTree, NoOther, Other, LastTree, NoLast, Last}
+use Rattle.rf_jtree.specs.declared.operator_names.TheConstants.{RIGHT_BRACE}
+use Rattle.rf_jtree.specs.declared.keyword_names.TheConstants.{CASE, CATCH, DEFAULT, ELSE, FINALLY}
+use Rattle.rf_jtree.specs.Kinds.{IsOp, IsKey}
+use Rattle.rf_jtree.specs.StmtFits.{EndsOpen, ends_open, other_ends_open}
+use Rattle.rf_jtree.specs.StmtTrees.{StmtTree, Label, If, While, For, Each, Try, OtherTree, NoOther, Other, LastTree, NoLast, Last}
 use Rattle.rf_jexpr.specs.Reads.{is_op, is_key, begins}
 use Rattle.rf_jexpr.proofs.StopLemmas.{or_false, false_or}
 use Rattle.rf_jexpr.proofs.Tools.{is_op-IsOp, is_key-IsKey}

@@ -1,16 +1,16 @@
 -- What the readers of statements without lists read fits and is no deeper than the room.
 use Rattle.std.proofs.Common.{ℕ, suc, ◌≤◌, [], Option, Some, None, Bool, true, false, not, IsTrue, IfSome, ◌⊎◌, inl, inr, refl, arith}
 use Rattle.rf_jtree.specs.declared.tokens.Tok.{Tok}
-use Rattle.rf_jfit.specs.declared.levels.TheConstants.{ASSIGNMENT_LEVEL}
-use Rattle.rf_jfit.specs.declared.operators.TheConstants.{SEMICOLON, COLON}
-use Rattle.rf_jfit.specs.declared.words.TheConstants.{ASSERT, BREAK, CONTINUE, DO, ELSE, IF, RETURN, SYNCHRONIZED, THROW, WHILE}
-use Rattle.rf_jfit.specs.ExprTrees.{ExprTree, expr_yield, expr_depth}
-use Rattle.rf_jfit.specs.Kinds.{IsOp, IsKey, IsIdent}
-use Rattle.rf_jfit.specs.NameTrees.{tok_yield, option_depth}
-use Rattle.rf_jfit.specs.StmtFits.{IsStatementExpr, EndsOpen, ends_open, IsNearestIf, MessageFits, OtherFits}
-use Rattle.rf_jfit.specs.StmtTrees.{StmtTree, Block, Empty, Label, Value, If, While, Do, Jump, Return, Throw, Sync, Assert}
-use Rattle.rf_jfit.specs.StmtTrees.{OtherTree, NoOther, Other}
-use Rattle.rf_jfit.specs.StmtTrees.{stmt_yield, other_yield, other_depth}
+use Rattle.rf_jtree.specs.declared.levels.TheConstants.{ASSIGNMENT_LEVEL}
+use Rattle.rf_jtree.specs.declared.operator_names.TheConstants.{SEMICOLON, COLON}
+use Rattle.rf_jtree.specs.declared.keyword_names.TheConstants.{ASSERT, BREAK, CONTINUE, DO, ELSE, IF, RETURN, SYNCHRONIZED, THROW, WHILE}
+use Rattle.rf_jtree.specs.ExprTrees.{ExprTree, expr_yield, expr_depth}
+use Rattle.rf_jtree.specs.Kinds.{IsOp, IsKey, IsIdent}
+use Rattle.rf_jtree.specs.NameTrees.{tok_yield, option_depth}
+use Rattle.rf_jtree.specs.StmtFits.{IsStatementExpr, EndsOpen, ends_open, IsNearestIf, MessageFits, OtherFits}
+use Rattle.rf_jtree.specs.StmtTrees.{StmtTree, Block, Empty, Label, Value, If, While, Do, Jump, Return, Throw, Sync, Assert}
+use Rattle.rf_jtree.specs.StmtTrees.{OtherTree, NoOther, Other}
+use Rattle.rf_jtree.specs.StmtTrees.{stmt_yield, other_yield, other_depth}
 use Rattle.rf_jexpr.specs.PartReads.{Parsers}
 use Rattle.rf_jexpr.specs.Reads.{when, is_op, is_key, is_ident, begins, token, optional, behind}
 use Rattle.rf_jexpr.proofs.LoopLemmas.{IsSound, behind-sound}

@@ -2,16 +2,16 @@
 use Rattle.std.proofs.Common.{◌≡◌, ℕ, suc, ◌≤◌, List, [], ◌∷◌, ◌++◌, Some, None, refl, ap, ◌∙◌, arith}
 use Rattle.std.specs.List.{flat_map}
 use Rattle.rf_jtree.specs.declared.tokens.Tok.{Tok}
-use Rattle.rf_jfit.specs.declared.operators.TheConstants.{LEFT_PAREN, RIGHT_PAREN, LEFT_BRACE, RIGHT_BRACE, SEMICOLON, COLON}
-use Rattle.rf_jfit.specs.declared.words.TheConstants.{CASE, CATCH, DEFAULT, FINAL, FINALLY, FOR, SWITCH, TRY}
-use Rattle.rf_jfit.specs.Kinds.{IsOp, IsKey}
-use Rattle.rf_jfit.specs.NameFits.{EachFits, TypeFits}
-use Rattle.rf_jfit.specs.NameTrees.{ModTree, TypeUseTree, tok_yield, name_yield, type_yield, mods_yield}
-use Rattle.rf_jfit.specs.StmtFits.{VariableModsFit, FirstFits, GroupFits, GroupsFit, CatchFits, CatchesFit, LastFits}
-use Rattle.rf_jfit.specs.StmtShown.{groups_tree, catches_tree}
-use Rattle.rf_jfit.specs.StmtTrees.{ForFirstTree, first_yield, first_depth, StmtTree, For, Each, Switch, Try}
-use Rattle.rf_jfit.specs.StmtTrees.{GroupTree, Group, GroupsTree, CatchTree, Catch, CatchesTree, LastTree, NoLast, Last}
-use Rattle.rf_jfit.specs.StmtTrees.{stmt_yield, group_yield, groups_yield, catch_yield, catches_yield, last_yield, group_depth, groups_depth, catch_depth, catches_depth, last_depth}
+use Rattle.rf_jtree.specs.declared.operator_names.TheConstants.{LEFT_PAREN, RIGHT_PAREN, LEFT_BRACE, RIGHT_BRACE, SEMICOLON, COLON}
+use Rattle.rf_jtree.specs.declared.keyword_names.TheConstants.{CASE, CATCH, DEFAULT, FINAL, FINALLY, FOR, SWITCH, TRY}
+use Rattle.rf_jtree.specs.Kinds.{IsOp, IsKey}
+use Rattle.rf_jtree.specs.NameFits.{EachFits, TypeFits}
+use Rattle.rf_jtree.specs.NameTrees.{ModTree, TypeUseTree, tok_yield, name_yield, type_yield, mods_yield}
+use Rattle.rf_jtree.specs.StmtFits.{VariableModsFit, FirstFits, GroupFits, GroupsFit, CatchFits, CatchesFit, LastFits}
+use Rattle.rf_jtree.specs.StmtShown.{groups_tree, catches_tree}
+use Rattle.rf_jtree.specs.StmtTrees.{ForFirstTree, first_yield, first_depth, StmtTree, For, Each, Switch, Try}
+use Rattle.rf_jtree.specs.StmtTrees.{GroupTree, Group, GroupsTree, CatchTree, Catch, CatchesTree, LastTree, NoLast, Last}
+use Rattle.rf_jtree.specs.StmtTrees.{stmt_yield, group_yield, groups_yield, catch_yield, catches_yield, last_yield, group_depth, groups_depth, catch_depth, catches_depth, last_depth}
 use Rattle.rf_jexpr.specs.NameReads.{name, type_use}
 use Rattle.rf_jexpr.specs.PartReads.{Parsers}
 use Rattle.rf_jexpr.specs.Reads.{is_op, is_key, is_ident, begins, token, optional, many, behind}

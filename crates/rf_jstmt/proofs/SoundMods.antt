@@ -1,11 +1,11 @@
 -- What the readers of modifiers read fits.
 use Rattle.std.proofs.Common.{IsTrue, refl}
-use Rattle.rf_jfit.specs.declared.operators.TheConstants.{LEFT_PAREN, RIGHT_PAREN, LEFT_BRACE, RIGHT_BRACE, COMMA, AT}
-use Rattle.rf_jfit.specs.declared.words.TheConstants.{MODIFIERS}
-use Rattle.rf_jfit.specs.Kinds.{IsStr, is_key_of}
-use Rattle.rf_jfit.specs.NameFits.{EachFits, ParensFit, StrsFit, ModFits}
-use Rattle.rf_jfit.specs.NameTrees.{One, Braced, Word, Mark, Suppress, tok_yield, pair_yield, strs_yield, mod_yield, mods_yield}
-use Rattle.rf_jfit.specs.StmtFits.{VariableModsFit}
+use Rattle.rf_jtree.specs.declared.operator_names.TheConstants.{LEFT_PAREN, RIGHT_PAREN, LEFT_BRACE, RIGHT_BRACE, COMMA, AT}
+use Rattle.rf_jtree.specs.declared.keyword_names.TheConstants.{MODIFIERS}
+use Rattle.rf_jtree.specs.Kinds.{IsStr, is_key_of}
+use Rattle.rf_jtree.specs.NameFits.{EachFits, ParensFit, StrsFit, ModFits}
+use Rattle.rf_jtree.specs.NameTrees.{One, Braced, Word, Mark, Suppress, tok_yield, pair_yield, strs_yield, mod_yield, mods_yield}
+use Rattle.rf_jtree.specs.StmtFits.{VariableModsFit}
 use Rattle.rf_jexpr.specs.Reads.{is_op, begins, token, optional, separated}
 use Rattle.rf_jexpr.proofs.LoopLemmas.{IsSound, many-sound, separated-sound}
 use Rattle.rf_jexpr.proofs.SoundNames.{token-sound, made-sound, optional-sound}

@@ -4,15 +4,15 @@ use Rattle.std.proofs.Common.{◌≡◌, ℕ, ◌≤◌, List, [], ◌∷◌, �
 use Rattle.std.specs.List.{flat_map}
 use Rattle.rf_jtree.specs.declared.tokens.Tok.{Tok}
 use Rattle.rf_jtree.specs.declared.words.Kw.{Kw}
-use Rattle.rf_jfit.specs.declared.levels.TheConstants.{ASSIGNMENT_LEVEL}
-use Rattle.rf_jfit.specs.declared.operators.TheConstants.{LEFT_PAREN, RIGHT_PAREN, LEFT_BRACE, RIGHT_BRACE, COMMA}
-use Rattle.rf_jfit.specs.ExprFits.{ExprFits, ExprsFit}
-use Rattle.rf_jfit.specs.ExprTrees.{ExprTree, ExprsTree, NoExprs, expr_yield, exprs_yield, expr_depth, exprs_depth}
-use Rattle.rf_jfit.specs.NameFits.{EachFits}
-use Rattle.rf_jfit.specs.NameTrees.{option_yield, option_depth}
-use Rattle.rf_jfit.specs.StmtFits.{IsNoLocal, AreStatementExprs, IsHead, StmtFits, BlockFits, StmtsFit}
-use Rattle.rf_jfit.specs.StmtShown.{stmts_tree}
-use Rattle.rf_jfit.specs.StmtTrees.{StmtTree, BlockTree, Braces, StmtsTree, stmt_yield, block_yield, stmts_yield, stmt_depth, block_depth, stmts_depth}
+use Rattle.rf_jtree.specs.declared.levels.TheConstants.{ASSIGNMENT_LEVEL}
+use Rattle.rf_jtree.specs.declared.operator_names.TheConstants.{LEFT_PAREN, RIGHT_PAREN, LEFT_BRACE, RIGHT_BRACE, COMMA}
+use Rattle.rf_jtree.specs.ExprFits.{ExprFits, ExprsFit}
+use Rattle.rf_jtree.specs.ExprTrees.{ExprTree, ExprsTree, NoExprs, expr_yield, exprs_yield, expr_depth, exprs_depth}
+use Rattle.rf_jtree.specs.NameFits.{EachFits}
+use Rattle.rf_jtree.specs.NameTrees.{option_yield, option_depth}
+use Rattle.rf_jtree.specs.StmtFits.{IsNoLocal, AreStatementExprs, IsHead, StmtFits, BlockFits, StmtsFit}
+use Rattle.rf_jtree.specs.StmtShown.{stmts_tree}
+use Rattle.rf_jtree.specs.StmtTrees.{StmtTree, BlockTree, Braces, StmtsTree, stmt_yield, block_yield, stmts_yield, stmt_depth, block_depth, stmts_depth}
 use Rattle.rf_jexpr.specs.PartReads.{Parsers, exprs_of}
 use Rattle.rf_jexpr.specs.Reads.{◌>>=◌, is_op, is_key, begins, many, separated}
 use Rattle.rf_jexpr.specs.Stops.{begins_expr}

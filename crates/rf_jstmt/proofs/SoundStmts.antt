@@ -1,10 +1,10 @@
 -- What the readers of statements read fits and is no deeper than the room, in each room.
 use Rattle.std.proofs.Common.{ℕ, zero, suc, List}
 use Rattle.rf_jtree.specs.declared.tokens.Tok.{Tok}
-use Rattle.rf_jfit.specs.declared.operators.TheConstants.{LEFT_BRACE, SEMICOLON}
-use Rattle.rf_jfit.specs.declared.words.TheConstants.{ASSERT, DO, FOR, IF, RETURN, SWITCH, SYNCHRONIZED, THROW, TRY, WHILE}
-use Rattle.rf_jfit.specs.StmtTrees.{StmtTree}
-use Rattle.rf_jfit.specs.StmtTrees.{stmt_yield}
+use Rattle.rf_jtree.specs.declared.operator_names.TheConstants.{LEFT_BRACE, SEMICOLON}
+use Rattle.rf_jtree.specs.declared.keyword_names.TheConstants.{ASSERT, DO, FOR, IF, RETURN, SWITCH, SYNCHRONIZED, THROW, TRY, WHILE}
+use Rattle.rf_jtree.specs.StmtTrees.{StmtTree}
+use Rattle.rf_jtree.specs.StmtTrees.{stmt_yield}
 use Rattle.rf_jexpr.specs.Descent.{parsers}
 use Rattle.rf_jexpr.specs.PartReads.{Parsers}
 use Rattle.rf_jexpr.specs.Reads.{is_op, is_key, begins}

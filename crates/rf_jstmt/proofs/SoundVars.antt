@@ -1,13 +1,13 @@
 -- What the readers of variables and local declarations read fits, and is no deeper than the room that is left.
 use Rattle.std.proofs.Common.{◌≡◌, ℕ, ◌≤◌, List, [], ◌∷◌, ◌++◌, Option, Some, None, IfSome, arith}
 use Rattle.rf_jtree.specs.declared.tokens.Tok.{Tok}
-use Rattle.rf_jfit.specs.declared.operators.TheConstants.{COMMA, ASSIGN}
-use Rattle.rf_jfit.specs.ExprTrees.{InitTree, init_yield, init_depth}
-use Rattle.rf_jfit.specs.Kinds.{IsOp}
-use Rattle.rf_jfit.specs.NameFits.{EachFits, ManyFit, TypeFits}
-use Rattle.rf_jfit.specs.NameTrees.{ManyTree, ModTree, TypeUseTree, type_yield, mods_yield, many_yield, option_depth, many_depth, list_depth}
-use Rattle.rf_jfit.specs.StmtFits.{VariableModsFit, BeginningFits, VarFits, LocalFits}
-use Rattle.rf_jfit.specs.StmtTrees.{VarTree, LocalTree, var_yield, local_yield, var_depth, local_depth}
+use Rattle.rf_jtree.specs.declared.operator_names.TheConstants.{COMMA, ASSIGN}
+use Rattle.rf_jtree.specs.ExprTrees.{InitTree, init_yield, init_depth}
+use Rattle.rf_jtree.specs.Kinds.{IsOp}
+use Rattle.rf_jtree.specs.NameFits.{EachFits, ManyFit, TypeFits}
+use Rattle.rf_jtree.specs.NameTrees.{ManyTree, ModTree, TypeUseTree, type_yield, mods_yield, many_yield, option_depth, many_depth, list_depth}
+use Rattle.rf_jtree.specs.StmtFits.{VariableModsFit, BeginningFits, VarFits, LocalFits}
+use Rattle.rf_jtree.specs.StmtTrees.{VarTree, LocalTree, var_yield, local_yield, var_depth, local_depth}
 use Rattle.rf_jexpr.specs.NameReads.{dims, type_use}
 use Rattle.rf_jexpr.specs.PartReads.{Parsers}
 use Rattle.rf_jexpr.specs.Reads.{is_op, is_ident, optional, behind, separated}

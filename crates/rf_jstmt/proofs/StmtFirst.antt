@@ -3,15 +3,15 @@ use Rattle.std.proofs.Common.{◌≡◌, ◌≤◌, ◌==◌, List, [], ◌∷�
 use Rattle.rf_jtree.specs.declared.tokens.Tok.{Tok}
 use Rattle.rf_jtree.specs.declared.tokens.TokKind.{TokKind}
 use Rattle.rf_jtree.specs.declared.tokens.TokKind.TheVariants as kind
-use Rattle.rf_jfit.specs.declared.words.TheConstants.{CATCH, ELSE, FINALLY, PRIMITIVES}
+use Rattle.rf_jtree.specs.declared.keyword_names.TheConstants.{CATCH, ELSE, FINALLY, PRIMITIVES}
 use Rattle.rf_jfit.specs.ExprFirst.{expr_first}
-use Rattle.rf_jfit.specs.ExprFits.{ExprFits}
-use Rattle.rf_jfit.specs.ExprTrees.{ExprTree, expr_yield}
-use Rattle.rf_jfit.specs.Kinds.{IsKey, is_key_of}
-use Rattle.rf_jfit.specs.NameFits.{ModFits, BaseFits, TypeFits}
-use Rattle.rf_jfit.specs.NameTrees.{ModTree, Word, Mark, Suppress, TypeBaseTree, Prim, Named, TypeUseTree, mod_yield, mods_yield, base_yield, dims_yield, type_yield, many_yield}
-use Rattle.rf_jfit.specs.StmtFits.{IsFinalOrAnnotation, VariableModsFit, LocalFits, StmtFits}
-use Rattle.rf_jfit.specs.StmtTrees.{LocalTree, local_yield, var_yield, StmtTree, Block, Empty, Label, Value, If, While, Do, For, Each, Switch, Jump, Return, Throw, Sync, Assert, Try, Braces, stmt_yield}
+use Rattle.rf_jtree.specs.ExprFits.{ExprFits}
+use Rattle.rf_jtree.specs.ExprTrees.{ExprTree, expr_yield}
+use Rattle.rf_jtree.specs.Kinds.{IsKey, is_key_of}
+use Rattle.rf_jtree.specs.NameFits.{ModFits, BaseFits, TypeFits}
+use Rattle.rf_jtree.specs.NameTrees.{ModTree, Word, Mark, Suppress, TypeBaseTree, Prim, Named, TypeUseTree, mod_yield, mods_yield, base_yield, dims_yield, type_yield, many_yield}
+use Rattle.rf_jtree.specs.StmtFits.{IsFinalOrAnnotation, VariableModsFit, LocalFits, StmtFits}
+use Rattle.rf_jtree.specs.StmtTrees.{LocalTree, local_yield, var_yield, StmtTree, Block, Empty, Label, Value, If, While, Do, For, Each, Switch, Jump, Return, Throw, Sync, Assert, Try, Braces, stmt_yield}
 use Rattle.rf_jexpr.specs.Reads.{is_key, begins}
 use Rattle.rf_jexpr.specs.Stops.{begins_expr}
 use Rattle.rf_jexpr.proofs.First.{begins_first, expr_first-begins}

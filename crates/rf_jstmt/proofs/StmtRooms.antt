@@ -2,7 +2,7 @@
 -- that each statement takes a token at least.
 use Rattle.std.proofs.Common.{◌≡◌, ℕ, zero, suc, ◌+◌, ◌-◌, ◌≤◌, ◌<◌, List, Some, None, if◌then◌else◌, drop, length, refl, ap, ◌∙◌, sym, arith, length-append, length-drop}
 use Rattle.rf_jtree.specs.declared.tokens.Tok.{Tok}
-use Rattle.rf_jfit.specs.StmtTrees.{StmtTree, stmt_yield}
+use Rattle.rf_jtree.specs.StmtTrees.{StmtTree, stmt_yield}
 use Rattle.rf_jexpr.specs.Descent.{parsers}
 use Rattle.rf_jstmt.specs.StmtReads.{stmt, block_stmt, local_stmt, block_alone, no_stmts, with_stmt_room, stmt_parsers, whole_block}
 use Rattle.rf_jstmt.specs.VarReads.{begins_local}

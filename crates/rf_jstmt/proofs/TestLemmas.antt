@@ -6,13 +6,13 @@ use Rattle.std.proofs.lemmas.Slice.Eq.{bytes_eq-Decides}
 use Rattle.rf_jtree.specs.declared.tokens.Tok.{Tok}
 use Rattle.rf_jtree.specs.declared.tokens.TokKind.{TokKind}
 use Rattle.rf_jtree.specs.declared.tokens.TokKind.TheVariants as kind
-use Rattle.rf_jfit.specs.declared.words.TheConstants.{FINAL}
-use Rattle.rf_jfit.specs.ExprTrees.{ExprTree, Assign, Unary, Postfix, Call, Super, SuperArgs, New, ExprsTree, NoExprs, Exprs, MoreExprsTree, NoMoreExprs, MoreExprs}
-use Rattle.rf_jfit.specs.Kinds.{IsStr}
-use Rattle.rf_jfit.specs.NameFits.{EachFits, is_same_mod, is_access, NoneStandsTwice, HasOneAccessAtMost, ModFits, ModsFit, IsMarkName, IsSuppressName}
-use Rattle.rf_jfit.specs.NameTrees.{ModTree, Word}
-use Rattle.rf_jfit.specs.StmtFits.{IsFinalOrAnnotation, VariableModsFit, IsStatementExpr, AreMoreStatementExprs, AreStatementExprs, HasCatchOrLast}
-use Rattle.rf_jfit.specs.StmtTrees.{CatchesTree, NoCatches, Catches, LastTree, NoLast, Last}
+use Rattle.rf_jtree.specs.declared.keyword_names.TheConstants.{FINAL}
+use Rattle.rf_jtree.specs.ExprTrees.{ExprTree, Assign, Unary, Postfix, Call, Super, SuperArgs, New, ExprsTree, NoExprs, Exprs, MoreExprsTree, NoMoreExprs, MoreExprs}
+use Rattle.rf_jtree.specs.Kinds.{IsStr}
+use Rattle.rf_jtree.specs.NameFits.{EachFits, is_same_mod, is_access, NoneStandsTwice, HasOneAccessAtMost, ModFits, ModsFit, IsMarkName, IsSuppressName}
+use Rattle.rf_jtree.specs.NameTrees.{ModTree, Word}
+use Rattle.rf_jtree.specs.StmtFits.{IsFinalOrAnnotation, VariableModsFit, IsStatementExpr, AreMoreStatementExprs, AreStatementExprs, HasCatchOrLast}
+use Rattle.rf_jtree.specs.StmtTrees.{CatchesTree, NoCatches, Catches, LastTree, NoLast, Last}
 use Rattle.rf_jexpr.proofs.Tools.{both, and_true, is_key-IsKey, IsKey-is_key, is_ident-IsIdent, IsIdent-is_ident}
 use Rattle.rf_jstmt.specs.ModReads.{is_str, is_mark_name, is_suppress_name}
 use Rattle.rf_jstmt.specs.StmtReads.{has_part}

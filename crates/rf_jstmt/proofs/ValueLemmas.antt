@@ -4,12 +4,12 @@ use Rattle.std.specs.Option.{is_some}
 use Rattle.rf_jtree.specs.declared.exprs.Expr.{Expr}
 use Rattle.rf_jtree.specs.declared.names.Many.{Many}
 use Rattle.rf_jtree.specs.declared.tokens.Tok.{Tok}
-use Rattle.rf_jfit.specs.declared.operators.TheConstants.{COMMA}
-use Rattle.rf_jfit.specs.declared.words.TheConstants.{BREAK, CONTINUE}
-use Rattle.rf_jfit.specs.ExprTrees.{ExprTree, ExprsTree, Exprs, MoreExprs}
-use Rattle.rf_jfit.specs.StmtFits.{IsStatementExpr, AreStatementExprs}
-use Rattle.rf_jfit.specs.ExprShown.{expr_shown, exprs_shown, more_exprs_tree, more_exprs_shown}
-use Rattle.rf_jfit.specs.NameTrees.{ManyTree}
+use Rattle.rf_jtree.specs.declared.operator_names.TheConstants.{COMMA}
+use Rattle.rf_jtree.specs.declared.keyword_names.TheConstants.{BREAK, CONTINUE}
+use Rattle.rf_jtree.specs.ExprTrees.{ExprTree, ExprsTree, Exprs, MoreExprs}
+use Rattle.rf_jtree.specs.StmtFits.{IsStatementExpr, AreStatementExprs}
+use Rattle.rf_jtree.specs.ExprShown.{expr_shown, exprs_shown, more_exprs_tree, more_exprs_shown}
+use Rattle.rf_jtree.specs.NameTrees.{ManyTree}
 use Rattle.rf_jexpr.specs.Made.{exprs_found, item_shown}
 use Rattle.rf_jexpr.specs.PartReads.{Parsers, exprs_of}
 use Rattle.rf_jexpr.specs.Reads.{and_then, is_key, begins, token, when, optional, separated}

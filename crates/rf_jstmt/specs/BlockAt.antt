@@ -2,9 +2,9 @@
 use Rattle.std.specs.Prelude.{◌≡◌, ℕ, ◌≤◌, List, ◌++◌, drop, length, Result, Ok, Err}
 use Rattle.rf_jtree.specs.declared.stmts.Stmt.{Stmt}
 use Rattle.rf_jtree.specs.declared.tokens.Tok.{Tok}
-use Rattle.rf_jfit.specs.StmtFits.{StmtFits}
-use Rattle.rf_jfit.specs.StmtShown.{stmt_shown}
-use Rattle.rf_jfit.specs.StmtTrees.{StmtTree, Block, stmt_yield, stmt_depth}
+use Rattle.rf_jtree.specs.StmtFits.{StmtFits}
+use Rattle.rf_jtree.specs.StmtShown.{stmt_shown}
+use Rattle.rf_jtree.specs.StmtTrees.{StmtTree, Block, stmt_yield, stmt_depth}
 use Rattle.rf_jexpr.specs.declared.parse_err.ParseErr.{ParseErr}
 use Rattle.rf_jexpr.specs.declared.parse_err.ParseErr.TheVariants.{NoTree, Memory}
 

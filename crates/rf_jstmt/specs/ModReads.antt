@@ -4,10 +4,10 @@ use Rattle.std.specs.Str.{bytes_eq}
 use Rattle.rf_jtree.specs.declared.tokens.Tok.{Tok}
 use Rattle.rf_jtree.specs.declared.tokens.TokKind.{TokKind}
 use Rattle.rf_jtree.specs.declared.tokens.TokKind.TheVariants as kind
-use Rattle.rf_jfit.specs.declared.operators.TheConstants.{LEFT_PAREN, RIGHT_PAREN, LEFT_BRACE, RIGHT_BRACE, COMMA, AT}
-use Rattle.rf_jfit.specs.declared.words.TheConstants.{MODIFIERS}
-use Rattle.rf_jfit.specs.Kinds.{is_key_of}
-use Rattle.rf_jfit.specs.NameTrees.{StrsTree, One, Braced, ModTree, Word, Mark, Suppress}
+use Rattle.rf_jtree.specs.declared.operator_names.TheConstants.{LEFT_PAREN, RIGHT_PAREN, LEFT_BRACE, RIGHT_BRACE, COMMA, AT}
+use Rattle.rf_jtree.specs.declared.keyword_names.TheConstants.{MODIFIERS}
+use Rattle.rf_jtree.specs.Kinds.{is_key_of}
+use Rattle.rf_jtree.specs.NameTrees.{StrsTree, One, Braced, ModTree, Word, Mark, Suppress}
 use Rattle.rf_jexpr.specs.Reads.{Reads, ◌>>=◌, is_op, is_ident, begins, token, optional, many, separated}
 
 abbrev is_str_kind : TokKind → Bool

@@ -5,9 +5,9 @@ use Rattle.rf_jtree.specs.declared.stmts.ForFirst.{ForFirst}
 use Rattle.rf_jtree.specs.declared.stmts.Group.{Group}
 use Rattle.rf_jtree.specs.declared.stmts.Stmt.{Stmt}
 use Rattle.rf_jtree.specs.declared.tokens.Tok.{Tok}
-use Rattle.rf_jfit.specs.StmtShown.{catch_shown, catches_tree, first_shown, group_shown, groups_tree, stmt_shown, stmts_shown}
-use Rattle.rf_jfit.specs.StmtTrees.{CatchTree, GroupTree, StmtTree, catches_depth, first_depth, groups_depth}
-use Rattle.rf_jfit.specs.StmtTrees as t
+use Rattle.rf_jtree.specs.StmtShown.{catch_shown, catches_tree, first_shown, group_shown, groups_tree, stmt_shown, stmts_shown}
+use Rattle.rf_jtree.specs.StmtTrees.{CatchTree, GroupTree, StmtTree, catches_depth, first_depth, groups_depth}
+use Rattle.rf_jtree.specs.StmtTrees as t
 use Rattle.rf_jexpr.specs.declared.found.Found.{Found}
 use Rattle.rf_jexpr.specs.declared.parse_err.ParseErr.{ParseErr}
 use Rattle.rf_jexpr.specs.declared.parse_err.ParseErr.TheVariants.{NoTree, Memory}

@@ -7,9 +7,9 @@ use Rattle.rf_jtree.specs.declared.exprs.Init.{Init}
 use Rattle.rf_jtree.specs.declared.stmts.Stmt.{Stmt}
 use Rattle.rf_jtree.specs.declared.stmts.Var.{Var}
 use Rattle.rf_jtree.specs.declared.tokens.Tok.{Tok}
-use Rattle.rf_jfit.specs.ExprTrees.{ExprTree, InitTree, expr_depth, init_depth}
-use Rattle.rf_jfit.specs.StmtShown.{stmt_shown, var_shown}
-use Rattle.rf_jfit.specs.StmtTrees.{StmtTree, VarTree, var_depth}
+use Rattle.rf_jtree.specs.ExprTrees.{ExprTree, InitTree, expr_depth, init_depth}
+use Rattle.rf_jtree.specs.StmtShown.{stmt_shown, var_shown}
+use Rattle.rf_jtree.specs.StmtTrees.{StmtTree, VarTree, var_depth}
 use Rattle.rf_jexpr.specs.Made.{boxed_shown, boxed_init_shown}
 use Rattle.rf_jexpr.specs.Reads.{Reads, ◌>>=◌, token}
 use Rattle.rf_jstmt.specs.declared.heads.Head.{Head as HeadParts}

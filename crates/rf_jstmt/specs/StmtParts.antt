@@ -2,10 +2,10 @@
 use Rattle.std.specs.Prelude.{Option, Some, None, if◌then◌else◌}
 use Rattle.rf_jtree.specs.declared.tokens.Tok.{Tok}
 use Rattle.rf_jtree.specs.declared.words.Kw.{Kw}
-use Rattle.rf_jfit.specs.declared.operators.TheConstants.{LEFT_PAREN, RIGHT_PAREN, LEFT_BRACE, RIGHT_BRACE, COMMA}
-use Rattle.rf_jfit.specs.ExprTrees.{ExprTree, ExprsTree, NoExprs}
-use Rattle.rf_jfit.specs.StmtShown.{stmts_tree}
-use Rattle.rf_jfit.specs.StmtTrees.{StmtTree, BlockTree, Braces, StmtsTree}
+use Rattle.rf_jtree.specs.declared.operator_names.TheConstants.{LEFT_PAREN, RIGHT_PAREN, LEFT_BRACE, RIGHT_BRACE, COMMA}
+use Rattle.rf_jtree.specs.ExprTrees.{ExprTree, ExprsTree, NoExprs}
+use Rattle.rf_jtree.specs.StmtShown.{stmts_tree}
+use Rattle.rf_jtree.specs.StmtTrees.{StmtTree, BlockTree, Braces, StmtsTree}
 use Rattle.rf_jexpr.specs.PartReads.{Parsers, exprs_of}
 use Rattle.rf_jexpr.specs.Reads.{Reads, ◌>>=◌, when, is_op, is_key, begins, token, many, separated}
 use Rattle.rf_jexpr.specs.Stops.{begins_expr}

@@ -1,13 +1,13 @@
 -- The readers of statements: those of each room from those of the room below it.
 use Rattle.std.specs.Prelude.{ℕ, zero, suc, List, Some, None, Bool, true, false, not, ◌||◌, if◌then◌else◌}
 use Rattle.rf_jtree.specs.declared.tokens.Tok.{Tok}
-use Rattle.rf_jfit.specs.declared.operators.TheConstants.{LEFT_PAREN, RIGHT_PAREN, LEFT_BRACE, RIGHT_BRACE, SEMICOLON, COLON}
-use Rattle.rf_jfit.specs.declared.words.TheConstants.{ASSERT, BREAK, CASE, CATCH, CONTINUE, DEFAULT, DO, ELSE, FINAL, FINALLY, FOR, IF, RETURN, SWITCH, SYNCHRONIZED, THROW, TRY, WHILE}
-use Rattle.rf_jfit.specs.NameTrees.{ModTree, TypeUseTree}
-use Rattle.rf_jfit.specs.StmtFits.{ends_open}
-use Rattle.rf_jfit.specs.StmtShown.{groups_tree, catches_tree}
-use Rattle.rf_jfit.specs.StmtTrees.{ForFirstTree, StmtTree, Block, Empty, Label, Value, If, While, Do, For, Each, Switch, Jump, Return, Throw, Sync, Assert, Try}
-use Rattle.rf_jfit.specs.StmtTrees.{OtherTree, NoOther, Other, GroupTree, Group, CatchTree, Catch, CatchesTree, NoCatches, Catches, LastTree, NoLast, Last}
+use Rattle.rf_jtree.specs.declared.operator_names.TheConstants.{LEFT_PAREN, RIGHT_PAREN, LEFT_BRACE, RIGHT_BRACE, SEMICOLON, COLON}
+use Rattle.rf_jtree.specs.declared.keyword_names.TheConstants.{ASSERT, BREAK, CASE, CATCH, CONTINUE, DEFAULT, DO, ELSE, FINAL, FINALLY, FOR, IF, RETURN, SWITCH, SYNCHRONIZED, THROW, TRY, WHILE}
+use Rattle.rf_jtree.specs.NameTrees.{ModTree, TypeUseTree}
+use Rattle.rf_jtree.specs.StmtFits.{ends_open}
+use Rattle.rf_jtree.specs.StmtShown.{groups_tree, catches_tree}
+use Rattle.rf_jtree.specs.StmtTrees.{ForFirstTree, StmtTree, Block, Empty, Label, Value, If, While, Do, For, Each, Switch, Jump, Return, Throw, Sync, Assert, Try}
+use Rattle.rf_jtree.specs.StmtTrees.{OtherTree, NoOther, Other, GroupTree, Group, CatchTree, Catch, CatchesTree, NoCatches, Catches, LastTree, NoLast, Last}
 use Rattle.rf_jexpr.specs.Descent.{parsers}
 use Rattle.rf_jexpr.specs.NameReads.{name, type_use}
 use Rattle.rf_jexpr.specs.PartReads.{Parsers}

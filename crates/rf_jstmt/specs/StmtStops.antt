@@ -1,9 +1,9 @@
 -- What may follow a statement without going on with it.
 use Rattle.std.specs.Prelude.{◌≡◌, List, Bool, false, ◌||◌, IsTrue}
 use Rattle.rf_jtree.specs.declared.tokens.Tok.{Tok}
-use Rattle.rf_jfit.specs.declared.operators.TheConstants.{RIGHT_BRACE}
-use Rattle.rf_jfit.specs.declared.words.TheConstants.{CASE, CATCH, DEFAULT, ELSE, FINALLY}
-use Rattle.rf_jfit.specs.StmtTrees.{StmtTree, Label, If, While, For, Each, Try, OtherTree, NoOther, Other, LastTree, NoLast, Last}
+use Rattle.rf_jtree.specs.declared.operator_names.TheConstants.{RIGHT_BRACE}
+use Rattle.rf_jtree.specs.declared.keyword_names.TheConstants.{CASE, CATCH, DEFAULT, ELSE, FINALLY}
+use Rattle.rf_jtree.specs.StmtTrees.{StmtTree, Label, If, While, For, Each, Try, OtherTree, NoOther, Other, LastTree, NoLast, Last}
 use Rattle.rf_jexpr.specs.Reads.{is_op, is_key, begins}
 
 -- A `catch` or a `finally` goes on with a `try` that has no `finally`.

@@ -1,12 +1,12 @@
 -- The further conditions on what was read, as tests.
 use Rattle.std.specs.Prelude.{List, [], ◌∷◌, Bool, true, false, not, ◌&&◌, ◌||◌}
 use Rattle.std.specs.List.{list_all}
-use Rattle.rf_jfit.specs.declared.operators.TheConstants.{SUFFIXES}
-use Rattle.rf_jfit.specs.declared.words.TheConstants.{FINAL}
-use Rattle.rf_jfit.specs.ExprTrees.{ExprTree, Assign, Unary, Postfix, Call, Super, SuperArgs, New, ExprsTree, NoExprs, Exprs, MoreExprsTree, NoMoreExprs, MoreExprs}
-use Rattle.rf_jfit.specs.Kinds.{is_op_of}
-use Rattle.rf_jfit.specs.NameFits.{is_same_mod, is_access}
-use Rattle.rf_jfit.specs.NameTrees.{ModTree, Word}
+use Rattle.rf_jtree.specs.declared.operator_names.TheConstants.{SUFFIXES}
+use Rattle.rf_jtree.specs.declared.keyword_names.TheConstants.{FINAL}
+use Rattle.rf_jtree.specs.ExprTrees.{ExprTree, Assign, Unary, Postfix, Call, Super, SuperArgs, New, ExprsTree, NoExprs, Exprs, MoreExprsTree, NoMoreExprs, MoreExprs}
+use Rattle.rf_jtree.specs.Kinds.{is_op_of}
+use Rattle.rf_jtree.specs.NameFits.{is_same_mod, is_access}
+use Rattle.rf_jtree.specs.NameTrees.{ModTree, Word}
 use Rattle.rf_jexpr.specs.Reads.{is_key}
 
 -- ---- modifiers (JLS 8.1.1, 8.3.1, 8.4.3, 9.7)

@@ -1,11 +1,11 @@
 -- The readers of variables and of local declarations, and where such a declaration stands.
 use Rattle.std.specs.Prelude.{List, [], ◌∷◌, Option, Some, None, Bool, false, ◌&&◌, ◌||◌}
 use Rattle.rf_jtree.specs.declared.tokens.Tok.{Tok}
-use Rattle.rf_jfit.specs.declared.operators.TheConstants.{COMMA, COLON, ASSIGN, AT}
-use Rattle.rf_jfit.specs.declared.words.TheConstants.{FINAL, PRIMITIVES}
-use Rattle.rf_jfit.specs.Kinds.{is_key_of}
-use Rattle.rf_jfit.specs.NameTrees.{ModTree, TypeUseTree}
-use Rattle.rf_jfit.specs.StmtTrees.{VarTree, LocalTree}
+use Rattle.rf_jtree.specs.declared.operator_names.TheConstants.{COMMA, COLON, ASSIGN, AT}
+use Rattle.rf_jtree.specs.declared.keyword_names.TheConstants.{FINAL, PRIMITIVES}
+use Rattle.rf_jtree.specs.Kinds.{is_key_of}
+use Rattle.rf_jtree.specs.NameTrees.{ModTree, TypeUseTree}
+use Rattle.rf_jtree.specs.StmtTrees.{VarTree, LocalTree}
 use Rattle.rf_jexpr.specs.NameReads.{dims, type_use}
 use Rattle.rf_jexpr.specs.PartReads.{Parsers}
 use Rattle.rf_jexpr.specs.Reads.{Reads, ◌>>=◌, when, is_op, is_key, is_ident, begins, token, optional, behind, separated}

@@ -1,8 +1,8 @@
 ghost use Rattle.std.specs.Prelude.{◌≡◌, ◌≤◌, ◌<◌, drop, length, option_map, IfOk};
-ghost use Rattle.rf_jfit.specs.NameShown.{toks_shown, strs_shown, mod_shown};
-ghost use Rattle.rf_jfit.specs.Kinds.{is_key_of};
-ghost use Rattle.rf_jfit.specs.declared.operators.TheConstants.{COMMA};
-ghost use Rattle.rf_jfit.specs.declared.words.TheConstants.{MODIFIERS};
+ghost use Rattle.rf_jtree.specs.NameShown.{toks_shown, strs_shown, mod_shown};
+ghost use Rattle.rf_jtree.specs.Kinds.{is_key_of};
+ghost use Rattle.rf_jtree.specs.declared.operator_names.TheConstants.{COMMA};
+ghost use Rattle.rf_jtree.specs.declared.keyword_names.TheConstants.{MODIFIERS};
 ghost use Rattle.rf_jexpr.specs.Gives.{Gives, IsTaken};
 ghost use Rattle.rf_jexpr.specs.Reads.{is_op, token, optional, many, behind, separated};
 ghost use Rattle.rf_jstmt.specs.ModReads.{is_str, is_mark_name, is_suppress_name, goes_on_with, parens, one_str, braced_strs, strs, suppress, mark, word, modifier};
@@ -10,8 +10,8 @@ ghost use Rattle.rf_jstmt.specs.ModReads.{is_str, is_mark_name, is_suppress_name
 use crate::mod_tests::{is_mark_name, is_string, is_suppress_name};
 use rf_jexpr::{ParseErr, Taken, Want, attempt, is_at, take, tok_at};
 use rf_jfit::is_key_of;
-use rf_jfit::operators::{AT, COMMA, LEFT_BRACE, LEFT_PAREN, RIGHT_BRACE, RIGHT_PAREN};
-use rf_jfit::words::MODIFIERS;
+use rf_jtree::keyword_names::MODIFIERS;
+use rf_jtree::operator_names::{AT, COMMA, LEFT_BRACE, LEFT_PAREN, RIGHT_BRACE, RIGHT_PAREN};
 use rf_jtree::{Many, Mod, Strs, Tok, TokKind};
 use rf_text::{List, Memory};
 use std::alloc::Global;

@@ -1,6 +1,6 @@
 ghost use Rattle.std.specs.Prelude.{◌+◌, ◌≤◌, ◌<◌, drop, length, IfOk};
-ghost use Rattle.rf_jfit.specs.StmtShown.{stmt_shown, stmts_shown, block_shown};
-ghost use Rattle.rf_jfit.specs.StmtTrees.{stmt_depth, stmts_depth, block_depth};
+ghost use Rattle.rf_jtree.specs.StmtShown.{stmt_shown, stmts_shown, block_shown};
+ghost use Rattle.rf_jtree.specs.StmtTrees.{stmt_depth, stmts_depth, block_depth};
 ghost use Rattle.rf_jexpr.specs.Gives.{GivesTree, IsFound};
 ghost use Rattle.rf_jstmt.specs.StmtMade.{boxed_stmt_shown};
 ghost use Rattle.rf_jstmt.specs.StmtParts.{stmts, block};
@@ -9,7 +9,7 @@ ghost use Rattle.rf_jstmt.specs.StmtReads.{stmt_parsers, block_alone};
 use crate::nodes::{block_of, braces_of};
 use crate::top::block_stmt;
 use rf_jexpr::{Found, ParseErr, Want, attempt, grown, take};
-use rf_jfit::operators::{LEFT_BRACE, RIGHT_BRACE};
+use rf_jtree::operator_names::{LEFT_BRACE, RIGHT_BRACE};
 use rf_jtree::{Block, Stmt, Tok};
 use rf_text::{List, Memory};
 use std::alloc::Global;

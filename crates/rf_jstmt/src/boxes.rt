@@ -1,5 +1,5 @@
 ghost use Rattle.std.specs.Prelude.{◌≡◌, IfOk};
-ghost use Rattle.rf_jfit.specs.StmtShown.{stmt_shown};
+ghost use Rattle.rf_jtree.specs.StmtShown.{stmt_shown};
 ghost use Rattle.rf_jstmt.specs.StmtMade.{boxed_stmt_shown};
 
 use rf_jtree::Stmt;

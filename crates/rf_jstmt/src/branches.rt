@@ -1,7 +1,7 @@
 ghost use Rattle.std.specs.Prelude.{◌≡◌, ◌+◌, ◌≤◌, ◌<◌, drop, length, IfOk};
-ghost use Rattle.rf_jfit.specs.StmtShown.{group_shown, other_shown};
-ghost use Rattle.rf_jfit.specs.StmtFits.{ends_open};
-ghost use Rattle.rf_jfit.specs.StmtTrees.{group_depth, other_depth, stmt_depth};
+ghost use Rattle.rf_jtree.specs.StmtShown.{group_shown, other_shown};
+ghost use Rattle.rf_jtree.specs.StmtFits.{ends_open};
+ghost use Rattle.rf_jtree.specs.StmtTrees.{group_depth, other_depth, stmt_depth};
 ghost use Rattle.rf_jexpr.specs.Descent.{parsers};
 ghost use Rattle.rf_jexpr.specs.Gives.{GivesTree, IsFound};
 ghost use Rattle.rf_jexpr.specs.Reads.{many};
@@ -15,8 +15,8 @@ use crate::nodes::{group_of, if_of, label_of, switch_of};
 use crate::top::stmt;
 use rf_jexpr::{Found, ParseErr, Want, attempt, boxed_expr, deeper, grown, is_at, take};
 use rf_jfit::ends_open;
-use rf_jfit::operators::{COLON, LEFT_BRACE, RIGHT_BRACE};
-use rf_jfit::words::{CASE, DEFAULT, ELSE, IF, SWITCH};
+use rf_jtree::keyword_names::{CASE, DEFAULT, ELSE, IF, SWITCH};
+use rf_jtree::operator_names::{COLON, LEFT_BRACE, RIGHT_BRACE};
 use rf_jtree::{Expr, Group, Stmt, Tok};
 use rf_text::{List, Memory};
 use std::alloc::Global;
@@ -24,7 +24,7 @@ use std::alloc::Global;
 // In each function, `room` is what is left for the parts, so that a statement itself has one more.
 
 /// The parts of a group of a `switch`.
-#[derive(Debug, Drop)]
+#[derive(Drop)]
 pub(crate) struct GroupParts {
     pub word: Tok,
     pub value: Option<Box<Expr>>,

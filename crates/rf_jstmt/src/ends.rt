@@ -1,13 +1,13 @@
 ghost use Rattle.std.specs.Prelude.{◌≡◌, ◌≤◌, ◌<◌, drop, length, IfSome};
-ghost use Rattle.rf_jfit.specs.declared.operators.TheConstants.{DOT};
+ghost use Rattle.rf_jtree.specs.declared.operator_names.TheConstants.{DOT};
 ghost use Rattle.rf_jexpr.specs.Gives.{passes};
 ghost use Rattle.rf_jexpr.specs.NameReads.{name, brackets, type_base, type_use};
 ghost use Rattle.rf_jexpr.specs.Reads.{is_op, is_ident, token, many, behind};
 ghost use Rattle.rf_jstmt.specs.StmtMade.{IsEnd, IsEndOf, pair_of};
 
 use rf_jexpr::{Want, is_at, tok_at};
-use rf_jfit::operators::{DOT, LEFT_BRACKET, RIGHT_BRACKET};
 use rf_jtree::Tok;
+use rf_jtree::operator_names::{DOT, LEFT_BRACKET, RIGHT_BRACKET};
 
 // Where names and types end, with nothing of them being kept.
 

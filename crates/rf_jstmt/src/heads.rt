@@ -1,7 +1,7 @@
 ghost use Rattle.std.specs.Prelude.{◌≡◌, ◌≤◌, drop, length, option_map};
-ghost use Rattle.rf_jfit.specs.ExprShown.{exprs_shown};
-ghost use Rattle.rf_jfit.specs.ExprTrees.{expr_depth, exprs_depth};
-ghost use Rattle.rf_jfit.specs.NameTrees.{option_depth};
+ghost use Rattle.rf_jtree.specs.ExprShown.{exprs_shown};
+ghost use Rattle.rf_jtree.specs.ExprTrees.{expr_depth, exprs_depth};
+ghost use Rattle.rf_jtree.specs.NameTrees.{option_depth};
 ghost use Rattle.rf_jexpr.specs.Descent.{parsers};
 ghost use Rattle.rf_jexpr.specs.Gives.{GivesTree};
 ghost use Rattle.rf_jexpr.specs.Made.{boxed_shown};
@@ -12,13 +12,13 @@ ghost use Rattle.rf_jstmt.specs.StmtParts.{head, optional_expr, statement_exprs}
 ghost use Rattle.rf_jstmt.specs.StmtTests.{is_statement_expr, are_statement_exprs};
 
 use rf_jexpr::{Found, ParseErr, Want, boxed_expr, exprs, take, tok_at};
-use rf_jfit::operators::{LEFT_PAREN, PREFIXES, RIGHT_PAREN};
 use rf_jfit::{are_statement_exprs, begins_operand, is_op_of, is_statement_expr};
+use rf_jtree::operator_names::{LEFT_PAREN, PREFIXES, RIGHT_PAREN};
 use rf_jtree::{Expr, Kw, Many, Tok};
 use std::alloc::Global;
 
 /// A keyword with an expression in parentheses behind it.
-#[derive(Debug, Drop)]
+#[derive(Drop)]
 pub(crate) struct Head {
     pub word: Tok,
     pub left: Tok,

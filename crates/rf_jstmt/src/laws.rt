@@ -1,6 +1,6 @@
 ghost use Rattle.std.specs.Prelude.{◌≡◌};
-ghost use Rattle.rf_jfit.specs.StmtFits.{BlockFits};
-ghost use Rattle.rf_jfit.specs.StmtTrees.{BlockTree, block_yield};
+ghost use Rattle.rf_jtree.specs.StmtFits.{BlockFits};
+ghost use Rattle.rf_jtree.specs.StmtTrees.{BlockTree, block_yield};
 
 /// No two blocks that fit have the same tokens.
 pub fn blocks_have_one_tree()

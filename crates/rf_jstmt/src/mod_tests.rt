@@ -1,14 +1,14 @@
 ghost use Rattle.std.specs.Prelude.{◌≡◌, ◌||◌, not, codes};
 ghost use Rattle.std.specs.List.{list_all};
 ghost use Rattle.std.specs.Str.{bytes_eq};
-ghost use Rattle.rf_jfit.specs.NameFits.{key_number, is_same_mod, is_access};
-ghost use Rattle.rf_jfit.specs.NameShown.{mod_shown, mods_shown};
+ghost use Rattle.rf_jtree.specs.NameFits.{key_number, is_same_mod, is_access};
+ghost use Rattle.rf_jtree.specs.NameShown.{mod_shown, mods_shown};
 ghost use Rattle.rf_jexpr.specs.Reads.{is_ident};
 ghost use Rattle.rf_jstmt.specs.ModReads.{is_str, is_mark_name, is_suppress_name};
 ghost use Rattle.rf_jstmt.specs.StmtTests.{none_twice, one_access, mods_fit, is_variable_mod, variable_mods_fit};
 
-use rf_jfit::words::{ACCESSES, FINAL};
 use rf_jfit::{is_ident, is_key, is_key_of, is_str};
+use rf_jtree::keyword_names::{ACCESSES, FINAL};
 use rf_jtree::{Mod, Tok, TokKind};
 
 // The conditions on modifiers, as tests of what was read.

@@ -1,5 +1,5 @@
 ghost use Rattle.std.specs.Prelude.{◌≤◌, drop, length, IfOk};
-ghost use Rattle.rf_jfit.specs.NameShown.{mods_shown};
+ghost use Rattle.rf_jtree.specs.NameShown.{mods_shown};
 ghost use Rattle.rf_jexpr.specs.Gives.{Gives, IsTaken};
 ghost use Rattle.rf_jstmt.specs.ModReads.{mods};
 ghost use Rattle.rf_jstmt.specs.VarReads.{variable_mods};

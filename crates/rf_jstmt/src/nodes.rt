@@ -1,8 +1,8 @@
 ghost use Rattle.std.specs.Prelude.{◌≡◌, IfOk, option_map};
-ghost use Rattle.rf_jfit.specs.ExprShown.{expr_shown, exprs_shown};
-ghost use Rattle.rf_jfit.specs.NameShown.{mods_shown, name_shown, type_shown};
-ghost use Rattle.rf_jfit.specs.StmtShown.{block_shown, catch_shown, catches_tree, first_shown, group_shown, groups_tree, last_shown, other_shown, stmts_shown};
-ghost use Rattle.rf_jfit.specs.StmtTrees as trees;
+ghost use Rattle.rf_jtree.specs.ExprShown.{expr_shown, exprs_shown};
+ghost use Rattle.rf_jtree.specs.NameShown.{mods_shown, name_shown, type_shown};
+ghost use Rattle.rf_jtree.specs.StmtShown.{block_shown, catch_shown, catches_tree, first_shown, group_shown, groups_tree, last_shown, other_shown, stmts_shown};
+ghost use Rattle.rf_jtree.specs.StmtTrees as trees;
 ghost use Rattle.rf_jexpr.specs.Made.{boxed_shown};
 ghost use Rattle.rf_jstmt.specs.StmtGives.{catches_found, group_parts_shown, groups_found};
 ghost use Rattle.rf_jstmt.specs.StmtMade.{boxed_stmt_shown};

@@ -1,6 +1,6 @@
 ghost use Rattle.std.specs.Prelude.{◌≡◌, Some, None, option_map, IfOk};
-ghost use Rattle.rf_jfit.specs.StmtShown.{local_shown};
-ghost use Rattle.rf_jfit.specs.StmtTrees as trees;
+ghost use Rattle.rf_jtree.specs.StmtShown.{local_shown};
+ghost use Rattle.rf_jtree.specs.StmtTrees as trees;
 ghost use Rattle.rf_jexpr.specs.Made.{boxed_shown};
 ghost use Rattle.rf_jstmt.specs.StmtMade.{boxed_stmt_shown, boxed_message_shown};
 

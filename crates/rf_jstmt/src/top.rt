@@ -1,5 +1,5 @@
 ghost use Rattle.std.specs.Prelude.{◌+◌, drop};
-ghost use Rattle.rf_jfit.specs.StmtTrees.{stmt_depth};
+ghost use Rattle.rf_jtree.specs.StmtTrees.{stmt_depth};
 ghost use Rattle.rf_jexpr.specs.Descent.{parsers};
 ghost use Rattle.rf_jexpr.specs.Gives.{GivesTree};
 ghost use Rattle.rf_jstmt.specs.StmtMade.{boxed_stmt_shown};
@@ -13,8 +13,10 @@ use crate::loops::{do_stmt, for_stmt, while_stmt};
 use crate::simple::{assert_stmt, empty, jump, local_stmt, return_stmt, throw_stmt, value};
 use crate::tries::{sync_stmt, try_stmt};
 use rf_jexpr::{Found, ParseErr, Want, is_at};
-use rf_jfit::operators::{LEFT_BRACE, SEMICOLON};
-use rf_jfit::words::{ASSERT, DO, FOR, IF, RETURN, SWITCH, SYNCHRONIZED, THROW, TRY, WHILE};
+use rf_jtree::keyword_names::{
+    ASSERT, DO, FOR, IF, RETURN, SWITCH, SYNCHRONIZED, THROW, TRY, WHILE,
+};
+use rf_jtree::operator_names::{LEFT_BRACE, SEMICOLON};
 use rf_jtree::{Stmt, Tok};
 use std::alloc::Global;
 

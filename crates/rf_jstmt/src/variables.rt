@@ -1,9 +1,9 @@
 ghost use Rattle.std.specs.Prelude.{◌≡◌, ◌≤◌, ◌<◌, drop, length, map, option_map, IfOk};
-ghost use Rattle.rf_jfit.specs.NameShown.{many_shown};
-ghost use Rattle.rf_jfit.specs.NameTrees.{many_depth, list_depth, option_depth};
-ghost use Rattle.rf_jfit.specs.StmtShown.{var_shown};
-ghost use Rattle.rf_jfit.specs.StmtTrees.{var_depth};
-ghost use Rattle.rf_jfit.specs.declared.operators.TheConstants.{COMMA, ASSIGN};
+ghost use Rattle.rf_jtree.specs.NameShown.{many_shown};
+ghost use Rattle.rf_jtree.specs.NameTrees.{many_depth, list_depth, option_depth};
+ghost use Rattle.rf_jtree.specs.StmtShown.{var_shown};
+ghost use Rattle.rf_jtree.specs.StmtTrees.{var_depth};
+ghost use Rattle.rf_jtree.specs.declared.operator_names.TheConstants.{COMMA, ASSIGN};
 ghost use Rattle.rf_jexpr.specs.Descent.{parsers};
 ghost use Rattle.rf_jexpr.specs.Gives.{GivesTree, IsFound};
 ghost use Rattle.rf_jexpr.specs.Reads.{is_op, many, optional, behind, separated};
@@ -11,7 +11,7 @@ ghost use Rattle.rf_jstmt.specs.StmtMade.{boxed_var_shown, boxed_beginning_shown
 ghost use Rattle.rf_jstmt.specs.VarReads.{var};
 
 use rf_jexpr::{Found, ParseErr, Want, attempt, deeper, dims, grown, init, take};
-use rf_jfit::operators::{ASSIGN, COMMA};
+use rf_jtree::operator_names::{ASSIGN, COMMA};
 use rf_jtree::{Dims, Init, Many, Tok, Var};
 use rf_text::{List, Memory};
 use std::alloc::Global;

@@ -1,3 +1,5 @@
+pub mod ExprShows
+pub mod OperatorLemmas
+pub mod StmtShows
 pub mod TableLemmas
 pub mod WordLemmas
-pub mod OperatorLemmas

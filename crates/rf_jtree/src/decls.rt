@@ -2,7 +2,7 @@ use crate::{Args, Block, Dims, Many, Mod, Name, Stmt, Tok, TypeUse, Var};
 use rf_text::List;
 
 /// A parameter of a method or a constructor (JLS 8.4.1).
-#[derive(Debug, Drop)]
+#[derive(Drop)]
 pub struct Param {
     pub mods: List<Mod>,
     pub sort: TypeUse,
@@ -11,7 +11,7 @@ pub struct Param {
 }
 
 /// Parameters in parentheses (JLS 8.4.1).
-#[derive(Debug, Drop)]
+#[derive(Drop)]
 pub struct Params {
     pub left: Tok,
     pub list: Option<Many<Param>>,
@@ -19,7 +19,7 @@ pub struct Params {
 }
 
 /// `this(..);` or `super(..);` at the head of a constructor's body (JLS 8.8.7.1).
-#[derive(Debug, Drop)]
+#[derive(Drop)]
 pub struct CtorCall {
     pub word: Tok,
     pub args: Args,
@@ -27,21 +27,21 @@ pub struct CtorCall {
 }
 
 /// The result of a method (JLS 8.4).
-#[derive(Debug, Drop)]
+#[derive(Drop)]
 pub enum Ret {
     Void(Tok),
     Value(TypeUse),
 }
 
 /// The body of a method, or `;` in its place (JLS 8.4.7).
-#[derive(Debug, Drop)]
+#[derive(Drop)]
 pub enum Body {
     Block(Block),
     Semi(Tok),
 }
 
 /// A member of a type, an initializer or a stray `;` (JLS 8.1.6, 9.1.4).
-#[derive(Debug, Drop)]
+#[derive(Drop)]
 pub enum Member {
     Semi(Tok),
     /// An initializer, with `static` or without (JLS 8.6, 8.7).
@@ -76,7 +76,7 @@ pub enum Member {
 }
 
 /// A class or an interface (JLS 8.1, 9.1).
-#[derive(Debug, Drop)]
+#[derive(Drop)]
 pub struct TypeDecl {
     pub mods: List<Mod>,
     /// `class` or `interface`.
@@ -90,7 +90,7 @@ pub struct TypeDecl {
 }
 
 /// An import, of one type or on demand: then with `.` and `*` (JLS 7.5).
-#[derive(Debug, Drop)]
+#[derive(Drop)]
 pub struct Import {
     pub word: Tok,
     pub name: Name,
@@ -99,7 +99,7 @@ pub struct Import {
 }
 
 /// A file (JLS 7.3).
-#[derive(Debug, Drop)]
+#[derive(Drop)]
 pub struct Unit {
     pub package: Option<(Tok, Name, Tok)>,
     pub imports: List<Import>,

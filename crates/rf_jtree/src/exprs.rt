@@ -3,7 +3,7 @@ use rf_text::List;
 
 /// Arguments in parentheses (JLS 15.12).
 #[cycle(expr)]
-#[derive(Debug, Drop)]
+#[derive(Drop)]
 pub struct Args {
     pub left: Tok,
     pub list: Option<Many<Expr>>,
@@ -12,7 +12,7 @@ pub struct Args {
 
 /// What a variable or an array item begins with: an expression, or items in braces (JLS 8.3, 10.6).
 #[cycle(expr)]
-#[derive(Debug, Drop)]
+#[derive(Drop)]
 pub enum Init {
     Value(Expr),
     Braced(Braces),
@@ -20,7 +20,7 @@ pub enum Init {
 
 /// Items in braces, with a comma behind the last one or without (JLS 10.6).
 #[cycle(expr)]
-#[derive(Debug, Drop)]
+#[derive(Drop)]
 pub struct Braces {
     pub left: Tok,
     pub items: Option<Many<Init>>,
@@ -30,7 +30,7 @@ pub struct Braces {
 
 /// An expression (JLS 15).
 #[cycle(expr)]
-#[derive(Debug, Drop)]
+#[derive(Drop)]
 pub enum Expr {
     /// `left = value`, with any assignment operator (JLS 15.26).
     Assign(Box<Expr>, Tok, Box<Expr>),

@@ -3,7 +3,10 @@
 
 mod decls;
 mod exprs;
+pub mod keyword_names;
+pub mod levels;
 mod names;
+pub mod operator_names;
 mod operators;
 mod stmts;
 mod tables;

@@ -2,40 +2,40 @@ use crate::Tok;
 use rf_text::List;
 
 /// One item or more, with a token between two of them: `x {"," x}`, or identifiers with dots.
-#[derive(Debug, Drop)]
+#[derive(Drop)]
 pub struct Many<T> {
     pub first: Box<T>,
     pub rest: List<(Tok, T)>,
 }
 
 /// A dotted name (JLS 6.2).
-#[derive(Debug, Drop)]
+#[derive(Drop)]
 pub struct Name {
     pub ids: Many<Tok>,
 }
 
 /// Pairs of brackets: `[` and `]`.
-#[derive(Debug, Drop)]
+#[derive(Drop)]
 pub struct Dims {
     pub list: List<(Tok, Tok)>,
 }
 
 /// The type without its brackets: a primitive type or a named one (JLS 4.2, 4.3).
-#[derive(Debug, Drop)]
+#[derive(Drop)]
 pub enum TypeBase {
     Prim(Tok),
     Named(Name),
 }
 
 /// The use of a type (JLS 4.1).
-#[derive(Debug, Drop)]
+#[derive(Drop)]
 pub struct TypeUse {
     pub base: TypeBase,
     pub dims: Dims,
 }
 
 /// The strings of `@SuppressWarnings`: one, or any number in braces (JLS 9.7).
-#[derive(Debug, Drop)]
+#[derive(Drop)]
 pub enum Strs {
     One(Tok),
     Braced {
@@ -46,7 +46,7 @@ pub enum Strs {
 }
 
 /// A modifier: a word, or one of the three annotations (JLS 8.1.1, 8.3.1, 8.4.3, 9.7).
-#[derive(Debug, Drop)]
+#[derive(Drop)]
 pub enum Mod {
     Word(Tok),
     /// `@Override` or `@Deprecated`, with or without parentheses.

@@ -2,7 +2,7 @@ use crate::{Dims, Expr, Init, Many, Mod, Name, Tok, TypeUse};
 use rf_text::List;
 
 /// A variable: its name, brackets, and what it begins with (JLS 8.3, 14.4).
-#[derive(Debug, Drop)]
+#[derive(Drop)]
 pub struct Var {
     pub id: Tok,
     pub dims: Dims,
@@ -10,7 +10,7 @@ pub struct Var {
 }
 
 /// A local declaration, without its `;` (JLS 14.4).
-#[derive(Debug, Drop)]
+#[derive(Drop)]
 pub struct Local {
     pub mods: List<Mod>,
     pub sort: TypeUse,
@@ -19,7 +19,7 @@ pub struct Local {
 
 /// Statements in braces (JLS 14.2).
 #[cycle(stmt)]
-#[derive(Debug, Drop)]
+#[derive(Drop)]
 pub struct Block {
     pub left: Tok,
     pub list: List<Stmt>,
@@ -27,7 +27,7 @@ pub struct Block {
 }
 
 /// What a basic `for` begins with: a local declaration, or expressions (JLS 14.14.1).
-#[derive(Debug, Drop)]
+#[derive(Drop)]
 pub enum ForFirst {
     Local(Local),
     Exprs(Option<Many<Expr>>),
@@ -35,7 +35,7 @@ pub enum ForFirst {
 
 /// `case value:` or `default:` with the statements up to the next one (JLS 14.11).
 #[cycle(stmt)]
-#[derive(Debug, Drop)]
+#[derive(Drop)]
 pub struct Group {
     pub word: Tok,
     pub value: Option<Expr>,
@@ -45,7 +45,7 @@ pub struct Group {
 
 /// A catch clause (JLS 14.20).
 #[cycle(stmt)]
-#[derive(Debug, Drop)]
+#[derive(Drop)]
 pub struct Catch {
     pub word: Tok,
     pub left: Tok,
@@ -59,7 +59,7 @@ pub struct Catch {
 
 /// A statement (JLS 14).
 #[cycle(stmt)]
-#[derive(Debug, Drop)]
+#[derive(Drop)]
 pub enum Stmt {
     Block(Block),
     Empty(Tok),

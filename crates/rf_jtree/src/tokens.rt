@@ -19,7 +19,7 @@ pub enum TokKind {
 }
 
 /// A token: its sort, the white space and comments before it, and its text.
-#[derive(Debug, Drop)]
+#[derive(Drop)]
 pub struct Tok {
     pub kind: TokKind,
     /// The trivia since the token before.
@@ -28,7 +28,7 @@ pub struct Tok {
 }
 
 /// The tokens of a file, in order, and the trivia after the last one.
-#[derive(Debug, Drop)]
+#[derive(Drop)]
 pub struct Toks {
     pub list: List<Tok>,
     pub tail: Bytes,

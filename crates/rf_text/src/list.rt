@@ -7,7 +7,7 @@ use std::marker::Model;
 
 /// A growable list that contracts see as the list of its items.
 /// A type may lead back to itself through it, so trees are made of it.
-#[derive(Debug, Drop)]
+#[derive(Drop)]
 pub struct List<T> {
     items: Vec<T>,
 }

@@ -3,7 +3,7 @@ ghost use Rattle.std.specs.Prelude.{◌≡◌, ◌↔◌, IsTrue};
 use rf_text::List;
 
 /// The calls of a world or a sink in memory: they are numbered from 0, and chosen ones fail.
-#[derive(Debug, Drop)]
+#[derive(Drop)]
 pub(crate) struct Calls {
     failing: List<u64>,
     made: u64,

@@ -5,7 +5,7 @@ use rf_text::Bytes;
 use std::alloc::Global;
 
 /// A sink in memory, which tells its bytes and never fails.
-#[derive(Debug, Drop)]
+#[derive(Drop)]
 pub struct HonestSink {
     bytes: Bytes,
 }

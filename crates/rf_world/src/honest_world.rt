@@ -8,7 +8,7 @@ use std::alloc::Global;
 
 /// A world in memory, which tells its files.
 /// Only a read of a file that is not there fails.
-#[derive(Debug, Drop)]
+#[derive(Drop)]
 pub struct HonestWorld {
     files: List<(Bytes, Bytes, Bytes)>,
     read_faults: u64,

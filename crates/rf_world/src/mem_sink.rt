@@ -8,7 +8,7 @@ use std::alloc::Global;
 
 /// A sink in memory, which tells its bytes, and of which chosen calls fail.
 /// The calls of `put` are numbered from 0 in their order, failed ones too.
-#[derive(Debug, Drop)]
+#[derive(Drop)]
 pub struct MemSink {
     bytes: Bytes,
     calls: Calls,

@@ -9,7 +9,7 @@ use std::alloc::Global;
 
 /// A world in memory, which tells its files, and of which chosen calls fail.
 /// The calls of `list`, `read` and `write` are numbered from 0 in their order, failed ones too.
-#[derive(Debug, Drop)]
+#[derive(Drop)]
 pub struct MemWorld {
     files: List<(Bytes, Bytes, Bytes)>,
     calls: Calls,

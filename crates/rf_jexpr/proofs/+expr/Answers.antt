@@ -1,8 +1,8 @@
 -- What stands behind the last part, or behind the last expression in hand, ends its loop; and the readers of a whole room are
 -- told by those of the room that is left.
 use Rattle.std.proofs.Common.{◌≡◌, ◌+◌, ◌-◌, suc, drop, true, false, refl, arith, rules}
-use Rattle.rf_jfit.specs.declared.operators.TheConstants.{LEFT_BRACE, PREFIXES}
-use Rattle.rf_jfit.specs.Kinds.{is_op_of}
+use Rattle.rf_jtree.specs.declared.operator_names.TheConstants.{LEFT_BRACE, PREFIXES}
+use Rattle.rf_jtree.specs.Kinds.{is_op_of}
 use Rattle.rf_jexpr.specs.Descent.{parsers, operator}
 use Rattle.rf_jexpr.specs.Made.{boxed_shown}
 use Rattle.rf_jexpr.specs.PartReads.{exprs_of, inits_of}

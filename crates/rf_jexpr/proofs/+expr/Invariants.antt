@@ -1,5 +1,5 @@
 use Rattle.std.proofs.Common.{◌+◌, ◌-◌, ◌*◌, length, drop}
-use Rattle.rf_jfit.specs.declared.operators.TheConstants.{COMMA}
+use Rattle.rf_jtree.specs.declared.operator_names.TheConstants.{COMMA}
 use Rattle.rf_jexpr.specs.Descent.{parsers, operator}
 use Rattle.rf_jexpr.specs.Made.{boxed_shown, item_shown, item_depth, init_item_shown, init_item_depth, size_shown, size_depth}
 use Rattle.rf_jexpr.specs.PartReads.{sized}

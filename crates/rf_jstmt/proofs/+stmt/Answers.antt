@@ -1,6 +1,6 @@
 -- What stands behind the last part ends its loop, and the readers of a whole room are told by those of the room that is left.
 use Rattle.std.proofs.Common.{◌≡◌, ◌+◌, ◌-◌, drop, true, false, refl, ap, ◌∙◌, sym, arith}
-use Rattle.rf_jfit.specs.StmtTrees.{stmts_depth}
+use Rattle.rf_jtree.specs.StmtTrees.{stmts_depth}
 use Rattle.rf_jexpr.specs.Reads.{and_then}
 use Rattle.rf_jexpr.proofs.GrowthLemmas.{first-filling, next-filling, last-filling}
 use Rattle.rf_jstmt.specs.StmtParts.{stmts}

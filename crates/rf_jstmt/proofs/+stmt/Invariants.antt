@@ -1,6 +1,6 @@
 use Rattle.std.proofs.Common.{◌+◌, ◌-◌, ◌*◌, length}
-use Rattle.rf_jfit.specs.StmtShown.{stmt_shown, group_shown, catch_shown}
-use Rattle.rf_jfit.specs.StmtTrees.{stmt_depth, group_depth, catch_depth}
+use Rattle.rf_jtree.specs.StmtShown.{stmt_shown, group_shown, catch_shown}
+use Rattle.rf_jtree.specs.StmtTrees.{stmt_depth, group_depth, catch_depth}
 use Rattle.rf_jexpr.specs.Descent.{parsers}
 use Rattle.rf_jexpr.proofs.GrowthLemmas.{IsFilling}
 use Rattle.rf_jstmt.specs.StmtReads.{stmt_parsers, group, catch_part}

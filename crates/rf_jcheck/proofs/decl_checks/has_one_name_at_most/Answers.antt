@@ -1,5 +1,5 @@
 use Rattle.std.proofs.Common.{◌≡◌, List, [], ◌∷◌, map, refl, ap}
-use Rattle.rf_jfit.specs.DeclShown.{more_names_shown}
+use Rattle.rf_jtree.specs.DeclShown.{more_names_shown}
 use Rattle.rf_jcheck.proofs.decl_checks.has_one_name_at_most.Goals as goal
 
 map-nil : {A B : Type 0} (f : A → B) (xs : List A) → map f xs ≡ [] → xs ≡ []

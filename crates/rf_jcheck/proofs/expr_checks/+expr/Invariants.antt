@@ -1,6 +1,6 @@
 use Rattle.std.proofs.Common.{◌↔◌, ◌+◌, ◌*◌, drop}
-use Rattle.rf_jfit.specs.ExprFits.{MoreExprsFit, SizesFit, MoreInitsFit}
-use Rattle.rf_jfit.specs.ExprShown.{more_exprs_shown, sizes_shown, more_inits_shown}
+use Rattle.rf_jtree.specs.ExprFits.{MoreExprsFit, SizesFit, MoreInitsFit}
+use Rattle.rf_jtree.specs.ExprShown.{more_exprs_shown, sizes_shown, more_inits_shown}
 use Rattle.rf_jcheck.proofs.expr_checks.+expr.Given as goal
 
 abbrev pub invariant-more_exprs_fit-loop-item : goal.invariant-more_exprs_fit-loop-item

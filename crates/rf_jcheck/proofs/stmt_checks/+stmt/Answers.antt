@@ -1,6 +1,6 @@
 use Rattle.std.proofs.Common.{arith}
 use Rattle.std.proofs.lemmas.Grind.{common_steps}
-use Rattle.rf_jfit.proofs.StmtShows.{stmt_shown-If, stmt_shown-Try}
+use Rattle.rf_jtree.proofs.StmtShows.{stmt_shown-If, stmt_shown-Try}
 use Rattle.rf_jcheck.proofs.stmt_checks.+stmt.Goals as goal
 
 pub stmt_fits-returns-then-stmt_fits : goal.stmt_fits-returns-then-stmt_fits

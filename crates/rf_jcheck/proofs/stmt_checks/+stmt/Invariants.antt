@@ -1,4 +1,4 @@
-use Rattle.rf_jfit.specs.StmtShown.{stmt_shown, block_shown, stmts_shown, other_shown, group_shown, groups_shown, catch_shown, catches_shown, last_shown}
+use Rattle.rf_jtree.specs.StmtShown.{stmt_shown, block_shown, stmts_shown, other_shown, group_shown, groups_shown, catch_shown, catches_shown, last_shown}
 use Rattle.rf_jcheck.proofs.StmtWeights.{stmt_weight, block_weight, stmts_weight, other_weight, group_weight, groups_weight, catch_weight, catches_weight, last_weight}
 use Rattle.rf_jcheck.proofs.stmt_checks.+stmt.Given as goal
 

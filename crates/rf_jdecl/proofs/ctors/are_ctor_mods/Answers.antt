@@ -3,7 +3,7 @@ use Rattle.std.proofs.Common.{◌∙◌, rules, tests}
 use Rattle.std.proofs.lemmas.Iterator.{YieldsList-from_slice}
 use Rattle.std.proofs.lemmas.Iterator.Search.{all_from_yields_List}
 use Rattle.rf_jtree.specs.declared.names.Mod.{Mod}
-use Rattle.rf_jfit.specs.NameShown.{mod_shown}
+use Rattle.rf_jtree.specs.NameShown.{mod_shown}
 use Rattle.rf_jdecl.specs.MemberReads.{is_ctor_mod}
 use Rattle.rf_jdecl.proofs.CodeLemmas.{all-shown}
 use Rattle.rf_jdecl.proofs.ctors.are_ctor_mods.Goals as goal

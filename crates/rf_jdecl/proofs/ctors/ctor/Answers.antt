@@ -2,11 +2,11 @@
 use Rattle.std.proofs.Common.{List, Option, Some, Result, Err, option_map, drop, refl, sym, subst, arith}
 use Rattle.rf_jtree.specs.declared.decls.Member.{Member}
 use Rattle.rf_jtree.specs.declared.tokens.Tok.{Tok}
-use Rattle.rf_jfit.specs.declared.operators.TheConstants.{RIGHT_BRACE}
-use Rattle.rf_jfit.specs.DeclShown.{names_shown, params_shown, ctor_call_shown, member_shown}
-use Rattle.rf_jfit.specs.DeclTrees.{MemberTree, Ctor, member_depth}
-use Rattle.rf_jfit.specs.NameShown.{mods_shown}
-use Rattle.rf_jfit.specs.StmtShown.{stmts_shown}
+use Rattle.rf_jtree.specs.declared.operator_names.TheConstants.{RIGHT_BRACE}
+use Rattle.rf_jtree.specs.DeclShown.{names_shown, params_shown, ctor_call_shown, member_shown}
+use Rattle.rf_jtree.specs.DeclTrees.{MemberTree, Ctor, member_depth}
+use Rattle.rf_jtree.specs.NameShown.{mods_shown}
+use Rattle.rf_jtree.specs.StmtShown.{stmts_shown}
 use Rattle.rf_jexpr.specs.Gives.{GivesTree}
 use Rattle.rf_jexpr.specs.Reads.{and_then, is_op, token}
 use Rattle.rf_jexpr.specs.declared.found.Found.{Found}

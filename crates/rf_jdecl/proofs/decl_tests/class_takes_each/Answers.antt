@@ -3,7 +3,7 @@ use Rattle.std.proofs.Common.{◌∙◌, rules, tests}
 use Rattle.std.proofs.lemmas.Iterator.{YieldsList-from_slice}
 use Rattle.std.proofs.lemmas.Iterator.Search.{all_from_yields_List}
 use Rattle.rf_jtree.specs.declared.decls.Member.{Member}
-use Rattle.rf_jfit.specs.DeclShown.{member_shown}
+use Rattle.rf_jtree.specs.DeclShown.{member_shown}
 use Rattle.rf_jdecl.specs.DeclTests.{class_takes}
 use Rattle.rf_jdecl.proofs.CodeLemmas.{all-shown}
 use Rattle.rf_jdecl.proofs.decl_tests.class_takes_each.Goals as goal

@@ -3,8 +3,8 @@ use Rattle.std.proofs.Common.{◌∙◌, rules, tests}
 use Rattle.std.proofs.lemmas.Iterator.{YieldsList-from_slice}
 use Rattle.std.proofs.lemmas.Iterator.Search.{any_from_yields_List}
 use Rattle.rf_jtree.specs.declared.names.Mod.{Mod}
-use Rattle.rf_jfit.specs.DeclFits.{is_word_of}
-use Rattle.rf_jfit.specs.NameShown.{mod_shown}
+use Rattle.rf_jtree.specs.DeclFits.{is_word_of}
+use Rattle.rf_jtree.specs.NameShown.{mod_shown}
 use Rattle.rf_jdecl.proofs.CodeLemmas.{any-shown}
 use Rattle.rf_jdecl.proofs.decl_tests.has_word_of.Goals as goal
 

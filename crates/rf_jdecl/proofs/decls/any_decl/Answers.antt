@@ -2,10 +2,10 @@
 use Rattle.std.proofs.Common.{List, Option, Some, Result, Err, option_map, drop, refl, sym, subst, arith}
 use Rattle.rf_jtree.specs.declared.decls.TypeDecl.{TypeDecl}
 use Rattle.rf_jtree.specs.declared.tokens.Tok.{Tok}
-use Rattle.rf_jfit.specs.declared.operators.TheConstants.{RIGHT_BRACE}
-use Rattle.rf_jfit.specs.DeclShown.{names_shown, members_shown, decl_shown}
-use Rattle.rf_jfit.specs.DeclTrees.{TypeDeclTree}
-use Rattle.rf_jfit.specs.NameShown.{mods_shown}
+use Rattle.rf_jtree.specs.declared.operator_names.TheConstants.{RIGHT_BRACE}
+use Rattle.rf_jtree.specs.DeclShown.{names_shown, members_shown, decl_shown}
+use Rattle.rf_jtree.specs.DeclTrees.{TypeDeclTree}
+use Rattle.rf_jtree.specs.NameShown.{mods_shown}
 use Rattle.rf_jexpr.specs.Gives.{GivesTree}
 use Rattle.rf_jexpr.specs.Reads.{and_then, is_op, token}
 use Rattle.rf_jexpr.specs.declared.found.Found.{Found}

@@ -1,5 +1,5 @@
 use Rattle.std.proofs.Common.{◌-◌, length, map}
-use Rattle.rf_jfit.specs.declared.operators.TheConstants.{COMMA}
+use Rattle.rf_jtree.specs.declared.operator_names.TheConstants.{COMMA}
 use Rattle.rf_jexpr.specs.NameReads.{name}
 use Rattle.rf_jexpr.specs.Reads.{is_op, behind}
 use Rattle.rf_jexpr.proofs.TurnLemmas.{IsAtTurn}

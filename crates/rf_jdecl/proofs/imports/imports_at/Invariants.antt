@@ -1,5 +1,5 @@
 use Rattle.std.proofs.Common.{◌-◌, length, map}
-use Rattle.rf_jfit.specs.DeclShown.{import_shown}
+use Rattle.rf_jtree.specs.DeclShown.{import_shown}
 use Rattle.rf_jexpr.proofs.TurnLemmas.{IsAtTurn}
 use Rattle.rf_jdecl.specs.UnitReads.{import_decl}
 use Rattle.rf_jdecl.proofs.imports.imports_at.Given as goal

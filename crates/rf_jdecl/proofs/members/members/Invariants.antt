@@ -1,6 +1,6 @@
 use Rattle.std.proofs.Common.{◌-◌, length}
-use Rattle.rf_jfit.specs.DeclShown.{member_shown}
-use Rattle.rf_jfit.specs.DeclTrees.{member_depth}
+use Rattle.rf_jtree.specs.DeclShown.{member_shown}
+use Rattle.rf_jtree.specs.DeclTrees.{member_depth}
 use Rattle.rf_jexpr.proofs.GrowthLemmas.{IsFilling}
 use Rattle.rf_jdecl.specs.MemberReads.{member}
 use Rattle.rf_jdecl.proofs.members.members.Given as goal

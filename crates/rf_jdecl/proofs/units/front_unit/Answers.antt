@@ -1,7 +1,7 @@
 -- What was read of the parts of a file is what the file shows.
 use Rattle.std.proofs.Common.{drop, refl, arith}
-use Rattle.rf_jfit.specs.DeclShown.{unit_shown}
-use Rattle.rf_jfit.specs.DeclTrees.{unit_depth}
+use Rattle.rf_jtree.specs.DeclShown.{unit_shown}
+use Rattle.rf_jtree.specs.DeclTrees.{unit_depth}
 use Rattle.rf_jexpr.specs.Reads.{and_then}
 use Rattle.rf_jexpr.specs.declared.parse_err.ParseErr.TheVariants.{Memory}
 use Rattle.rf_jdecl.specs.UnitReads.{front_unit}

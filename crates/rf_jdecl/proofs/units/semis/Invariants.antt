@@ -1,5 +1,5 @@
 use Rattle.std.proofs.Common.{◌-◌, length}
-use Rattle.rf_jfit.specs.declared.operators.TheConstants.{SEMICOLON}
+use Rattle.rf_jtree.specs.declared.operator_names.TheConstants.{SEMICOLON}
 use Rattle.rf_jexpr.specs.Reads.{is_op, token}
 use Rattle.rf_jexpr.proofs.TurnLemmas.{IsAtTurn}
 use Rattle.rf_jdecl.proofs.units.semis.Given as goal

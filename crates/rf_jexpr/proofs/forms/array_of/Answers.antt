@@ -1,4 +1,4 @@
-use Rattle.rf_jfit.proofs.ExprShows.{expr_shown-NewArray}
+use Rattle.rf_jtree.proofs.ExprShows.{expr_shown-NewArray}
 use Rattle.rf_jexpr.proofs.FormLemmas.{sizes-shown}
 use Rattle.rf_jexpr.proofs.forms.array_of.Goals as goal
 

@@ -1,4 +1,4 @@
-use Rattle.rf_jfit.proofs.ExprShows.{init_shown-Braced}
+use Rattle.rf_jtree.proofs.ExprShows.{init_shown-Braced}
 use Rattle.rf_jexpr.proofs.forms.braced_of.Goals as goal
 
 pub returns : goal.returns

@@ -1,4 +1,4 @@
-use Rattle.rf_jfit.proofs.ExprShows.{expr_shown-Cast}
+use Rattle.rf_jtree.proofs.ExprShows.{expr_shown-Cast}
 use Rattle.rf_jexpr.proofs.forms.cast_of.Goals as goal
 
 pub returns : goal.returns

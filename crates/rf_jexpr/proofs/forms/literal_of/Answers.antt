@@ -1,4 +1,4 @@
-use Rattle.rf_jfit.proofs.ExprShows.{expr_shown-Lit}
+use Rattle.rf_jtree.proofs.ExprShows.{expr_shown-Lit}
 use Rattle.rf_jexpr.proofs.forms.literal_of.Goals as goal
 
 pub returns : goal.returns

@@ -1,4 +1,4 @@
-use Rattle.rf_jfit.proofs.ExprShows.{expr_shown-Postfix}
+use Rattle.rf_jtree.proofs.ExprShows.{expr_shown-Postfix}
 use Rattle.rf_jexpr.proofs.forms.postfix_of.Goals as goal
 
 pub returns : goal.returns

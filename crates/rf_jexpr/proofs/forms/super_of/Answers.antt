@@ -1,4 +1,4 @@
-use Rattle.rf_jfit.proofs.ExprShows.{expr_shown-Super}
+use Rattle.rf_jtree.proofs.ExprShows.{expr_shown-Super}
 use Rattle.rf_jexpr.proofs.FormLemmas.{super_args-shown}
 use Rattle.rf_jexpr.proofs.forms.super_of.Goals as goal
 

@@ -1,4 +1,4 @@
-use Rattle.rf_jfit.proofs.ExprShows.{expr_shown-This}
+use Rattle.rf_jtree.proofs.ExprShows.{expr_shown-This}
 use Rattle.rf_jexpr.proofs.forms.this_of.Goals as goal
 
 pub returns : goal.returns

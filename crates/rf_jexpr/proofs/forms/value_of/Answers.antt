@@ -1,4 +1,4 @@
-use Rattle.rf_jfit.proofs.ExprShows.{init_shown-Value}
+use Rattle.rf_jtree.proofs.ExprShows.{init_shown-Value}
 use Rattle.rf_jexpr.proofs.forms.value_of.Goals as goal
 
 pub returns : goal.returns

@@ -1,7 +1,7 @@
 -- What its reader reads is the longest.
-use Rattle.rf_jfit.specs.ExprFits.{ArgsFit}
-use Rattle.rf_jfit.specs.ExprShown.{args_shown}
-use Rattle.rf_jfit.specs.ExprTrees.{args_yield, args_depth}
+use Rattle.rf_jtree.specs.ExprFits.{ArgsFit}
+use Rattle.rf_jtree.specs.ExprShown.{args_shown}
+use Rattle.rf_jtree.specs.ExprTrees.{args_yield, args_depth}
 use Rattle.rf_jexpr.specs.Descent.{parsers}
 use Rattle.rf_jexpr.specs.PartReads.{args}
 use Rattle.rf_jexpr.proofs.AnswerLemmas.{args_longest, longest_found}

@@ -1,6 +1,6 @@
 -- What its reader reads is the longest.
-use Rattle.rf_jfit.specs.ExprFits.{ExprFits}
-use Rattle.rf_jfit.specs.ExprTrees.{expr_yield, expr_depth}
+use Rattle.rf_jtree.specs.ExprFits.{ExprFits}
+use Rattle.rf_jtree.specs.ExprTrees.{expr_yield, expr_depth}
 use Rattle.rf_jexpr.specs.Descent.{parsers}
 use Rattle.rf_jexpr.specs.Made.{boxed_shown}
 use Rattle.rf_jexpr.proofs.AnswerLemmas.{exprs_longest, longest_found}

@@ -1,6 +1,6 @@
 -- What its reader reads is the longest.
-use Rattle.rf_jfit.specs.ExprFits.{InitFits}
-use Rattle.rf_jfit.specs.ExprTrees.{init_yield, init_depth}
+use Rattle.rf_jtree.specs.ExprFits.{InitFits}
+use Rattle.rf_jtree.specs.ExprTrees.{init_yield, init_depth}
 use Rattle.rf_jexpr.specs.Descent.{parsers}
 use Rattle.rf_jexpr.specs.Made.{boxed_init_shown}
 use Rattle.rf_jexpr.proofs.AnswerLemmas.{inits_longest, longest_found}

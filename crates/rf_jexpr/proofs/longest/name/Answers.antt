@@ -1,7 +1,7 @@
 -- What its reader reads is the longest.
-use Rattle.rf_jfit.specs.NameFits.{NameFits}
-use Rattle.rf_jfit.specs.NameShown.{name_shown}
-use Rattle.rf_jfit.specs.NameTrees.{name_yield}
+use Rattle.rf_jtree.specs.NameFits.{NameFits}
+use Rattle.rf_jtree.specs.NameShown.{name_shown}
+use Rattle.rf_jtree.specs.NameTrees.{name_yield}
 use Rattle.rf_jexpr.specs.Longest.{not_deep}
 use Rattle.rf_jexpr.specs.NameReads.{name}
 use Rattle.rf_jexpr.proofs.AnswerLemmas.{longest_taken, names_longest}

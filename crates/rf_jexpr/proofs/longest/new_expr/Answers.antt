@@ -1,6 +1,6 @@
 -- What its reader reads is the longest.
 use Rattle.std.proofs.Common.{◌≡◌, ◌+◌, ◌-◌, None, Err, drop, arith}
-use Rattle.rf_jfit.specs.ExprTrees.{expr_yield, expr_depth}
+use Rattle.rf_jtree.specs.ExprTrees.{expr_yield, expr_depth}
 use Rattle.rf_jexpr.specs.declared.parse_err.ParseErr.TheVariants.{NoTree}
 use Rattle.rf_jexpr.specs.Descent.{parsers, creations}
 use Rattle.rf_jexpr.specs.Gives.{GivesTree}

@@ -1,7 +1,7 @@
 -- What its reader reads is the longest.
-use Rattle.rf_jfit.specs.NameFits.{TypeFits}
-use Rattle.rf_jfit.specs.NameShown.{type_shown}
-use Rattle.rf_jfit.specs.NameTrees.{type_yield}
+use Rattle.rf_jtree.specs.NameFits.{TypeFits}
+use Rattle.rf_jtree.specs.NameShown.{type_shown}
+use Rattle.rf_jtree.specs.NameTrees.{type_yield}
 use Rattle.rf_jexpr.specs.Longest.{not_deep}
 use Rattle.rf_jexpr.specs.NameReads.{type_use}
 use Rattle.rf_jexpr.proofs.AnswerLemmas.{longest_taken, types_longest}

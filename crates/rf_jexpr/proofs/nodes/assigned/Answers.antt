@@ -1,4 +1,4 @@
-use Rattle.rf_jfit.proofs.ExprShows.{expr_shown-Assign}
+use Rattle.rf_jtree.proofs.ExprShows.{expr_shown-Assign}
 use Rattle.rf_jexpr.proofs.nodes.assigned.Goals as goal
 
 pub returns : goal.returns

@@ -1,4 +1,4 @@
-use Rattle.rf_jfit.proofs.ExprShows.{expr_shown-Call}
+use Rattle.rf_jtree.proofs.ExprShows.{expr_shown-Call}
 use Rattle.rf_jexpr.proofs.nodes.call_on.Goals as goal
 
 pub returns : goal.returns

@@ -1,4 +1,4 @@
-use Rattle.rf_jfit.proofs.ExprShows.{expr_shown-Cond}
+use Rattle.rf_jtree.proofs.ExprShows.{expr_shown-Cond}
 use Rattle.rf_jexpr.proofs.nodes.chosen.Goals as goal
 
 pub returns : goal.returns

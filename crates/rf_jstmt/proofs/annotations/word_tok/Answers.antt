@@ -1,7 +1,7 @@
 use Rattle.std.proofs.Common.{◌∙◌, sym}
 use Rattle.rf_jexpr.proofs.CursorLemmas.{token-None, token-refused}
-use Rattle.rf_jfit.specs.Kinds.{is_key_of}
-use Rattle.rf_jfit.specs.declared.words.TheConstants.{MODIFIERS}
+use Rattle.rf_jtree.specs.Kinds.{is_key_of}
+use Rattle.rf_jtree.specs.declared.keyword_names.TheConstants.{MODIFIERS}
 use Rattle.rf_jstmt.proofs.ModLemmas.{word-same}
 use Rattle.rf_jstmt.proofs.annotations.word_tok.Goals as goal
 

@@ -1,6 +1,6 @@
 use Rattle.std.proofs.Common.{List, ◌-◌, length}
 use Rattle.rf_jtree.specs.declared.tokens.Tok.{Tok}
-use Rattle.rf_jfit.specs.declared.operators.TheConstants.{DOT}
+use Rattle.rf_jtree.specs.declared.operator_names.TheConstants.{DOT}
 use Rattle.rf_jexpr.specs.Reads.{is_op, is_ident, token, behind}
 use Rattle.rf_jexpr.proofs.TurnLemmas.{IsAtTurn}
 use Rattle.rf_jstmt.proofs.ends.ids_end.Given as goal

@@ -1,6 +1,6 @@
 -- What was read of expressions in a row, as far as all of them stand as statements.
 use Rattle.std.proofs.Common.{◌≡◌, true, false, not, drop, refl, sym, ap, ◌∙◌, arith}
-use Rattle.rf_jfit.specs.ExprTrees.{exprs_depth}
+use Rattle.rf_jtree.specs.ExprTrees.{exprs_depth}
 use Rattle.rf_jexpr.specs.Reads.{begins}
 use Rattle.rf_jexpr.specs.Stops.{begins_expr}
 use Rattle.rf_jstmt.specs.StmtParts.{statement_exprs}

@@ -2,7 +2,7 @@
 use Rattle.std.proofs.Common.{List, sym, subst}
 use Rattle.std.proofs.lemmas.List.{map-append}
 use Rattle.rf_jtree.specs.declared.names.Mod.{Mod}
-use Rattle.rf_jfit.specs.NameShown.{mods_shown}
+use Rattle.rf_jtree.specs.NameShown.{mods_shown}
 use Rattle.rf_jexpr.proofs.TurnLemmas.{IsAtTurn, first-turn, next-turn, last-turn}
 use Rattle.rf_jstmt.specs.ModReads.{modifier, mods}
 use Rattle.rf_jstmt.proofs.modifiers.mods.Goals as goal

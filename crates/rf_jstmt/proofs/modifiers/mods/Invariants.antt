@@ -1,5 +1,5 @@
 use Rattle.std.proofs.Common.{◌-◌, length}
-use Rattle.rf_jfit.specs.NameShown.{mods_shown}
+use Rattle.rf_jtree.specs.NameShown.{mods_shown}
 use Rattle.rf_jexpr.proofs.TurnLemmas.{IsAtTurn}
 use Rattle.rf_jstmt.specs.ModReads.{modifier}
 use Rattle.rf_jstmt.proofs.modifiers.mods.Given as goal

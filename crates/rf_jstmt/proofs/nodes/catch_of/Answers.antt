@@ -1,5 +1,5 @@
 use Rattle.std.proofs.Common.{refl}
-use Rattle.rf_jfit.proofs.StmtShows.{catch_shown-roll}
+use Rattle.rf_jtree.proofs.StmtShows.{catch_shown-roll}
 use Rattle.rf_jstmt.proofs.nodes.catch_of.Goals as goal
 
 pub returns : goal.returns

@@ -1,4 +1,4 @@
-use Rattle.rf_jfit.proofs.StmtShows.{stmt_shown-Switch}
+use Rattle.rf_jtree.proofs.StmtShows.{stmt_shown-Switch}
 use Rattle.rf_jstmt.proofs.ListShows.{groups-shown}
 use Rattle.rf_jstmt.proofs.nodes.switch_of.Goals as goal
 

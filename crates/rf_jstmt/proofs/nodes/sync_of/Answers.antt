@@ -1,4 +1,4 @@
-use Rattle.rf_jfit.proofs.StmtShows.{stmt_shown-Sync}
+use Rattle.rf_jtree.proofs.StmtShows.{stmt_shown-Sync}
 use Rattle.rf_jstmt.proofs.nodes.sync_of.Goals as goal
 
 pub returns : goal.returns

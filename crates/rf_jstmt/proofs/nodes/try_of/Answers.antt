@@ -1,4 +1,4 @@
-use Rattle.rf_jfit.proofs.StmtShows.{stmt_shown-Try}
+use Rattle.rf_jtree.proofs.StmtShows.{stmt_shown-Try}
 use Rattle.rf_jstmt.proofs.ListShows.{catches-shown}
 use Rattle.rf_jstmt.proofs.nodes.try_of.Goals as goal
 

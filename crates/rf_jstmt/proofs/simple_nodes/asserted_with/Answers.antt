@@ -1,4 +1,4 @@
-use Rattle.rf_jfit.proofs.StmtShows.{stmt_shown-Assert}
+use Rattle.rf_jtree.proofs.StmtShows.{stmt_shown-Assert}
 use Rattle.rf_jstmt.proofs.simple_nodes.asserted_with.Goals as goal
 
 pub returns : goal.returns

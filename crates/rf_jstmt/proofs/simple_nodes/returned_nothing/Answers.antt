@@ -1,4 +1,4 @@
-use Rattle.rf_jfit.proofs.StmtShows.{stmt_shown-Return}
+use Rattle.rf_jtree.proofs.StmtShows.{stmt_shown-Return}
 use Rattle.rf_jstmt.proofs.simple_nodes.returned_nothing.Goals as goal
 
 pub returns : goal.returns

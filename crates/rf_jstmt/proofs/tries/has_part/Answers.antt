@@ -1,4 +1,4 @@
-use Rattle.rf_jfit.specs.StmtShown.{last_shown}
+use Rattle.rf_jtree.specs.StmtShown.{last_shown}
 use Rattle.rf_jstmt.proofs.ListShows.{has_part-some}
 use Rattle.rf_jstmt.proofs.tries.has_part.Goals as goal
 

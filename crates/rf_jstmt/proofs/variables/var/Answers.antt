@@ -1,6 +1,6 @@
 -- What was read of the parts of a variable is what the variable shows.
 use Rattle.std.proofs.Common.{Some, drop, sym, ap, ◌∙◌, arith}
-use Rattle.rf_jfit.specs.StmtTrees.{VarTree, var_depth}
+use Rattle.rf_jtree.specs.StmtTrees.{VarTree, var_depth}
 use Rattle.rf_jexpr.specs.Reads.{and_then}
 use Rattle.rf_jstmt.specs.VarReads.{var}
 use Rattle.rf_jstmt.proofs.variables.var.Goals as goal

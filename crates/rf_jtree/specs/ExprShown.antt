@@ -9,9 +9,9 @@ use Rattle.rf_jtree.specs.declared.exprs.Expr.TheOpen.{Expr-F, Args-F, Braces-F,
 use Rattle.rf_jtree.specs.declared.exprs.Init.{Init, fold-Init}
 use Rattle.rf_jtree.specs.declared.names.Many.{Many}
 use Rattle.rf_jtree.specs.declared.tokens.Tok.{Tok}
-use Rattle.rf_jfit.specs.ExprTrees.{ExprTree, OnTree, ArgsTree, SuperArgsTree, ExprsTree, MoreExprsTree, SizesTree, InitTree, BracesTree, InitsTree, MoreInitsTree}
-use Rattle.rf_jfit.specs.ExprTrees as t
-use Rattle.rf_jfit.specs.NameShown.{name_shown, base_shown, type_shown}
+use Rattle.rf_jtree.specs.ExprTrees.{ExprTree, OnTree, ArgsTree, SuperArgsTree, ExprsTree, MoreExprsTree, SizesTree, InitTree, BracesTree, InitsTree, MoreInitsTree}
+use Rattle.rf_jtree.specs.ExprTrees as t
+use Rattle.rf_jtree.specs.NameShown.{name_shown, base_shown, type_shown}
 
 -- lists, and parts that may be left out, of trees
 abbrev pub on_tree : Option (Box ExprTree Global × Tok) → OnTree

@@ -10,8 +10,8 @@ use Rattle.rf_jtree.specs.declared.names.TypeBase.{TypeBase}
 use Rattle.rf_jtree.specs.declared.names.TypeBase.TheVariants as b
 use Rattle.rf_jtree.specs.declared.names.TypeUse.{TypeUse}
 use Rattle.rf_jtree.specs.declared.tokens.Tok.{Tok}
-use Rattle.rf_jfit.specs.NameTrees.{ManyTree, NameTree, TypeBaseTree, TypeUseTree, StrsTree, ModTree}
-use Rattle.rf_jfit.specs.NameTrees as t
+use Rattle.rf_jtree.specs.NameTrees.{ManyTree, NameTree, TypeBaseTree, TypeUseTree, StrsTree, ModTree}
+use Rattle.rf_jtree.specs.NameTrees as t
 
 abbrev pub many_shown : {A B : Type 0} → (A → B) → Many A → ManyTree B
 many_shown shown many = record { first = shown many.first.value; rest = map (λ item. (item.0, shown item.1)) many.rest }

@@ -6,7 +6,7 @@ use Rattle.rf_jtree.specs.declared.tokens.Tok.{Tok}
 use Rattle.rf_jtree.specs.declared.tokens.TokKind.{TokKind}
 use Rattle.rf_jtree.specs.declared.tokens.TokKind.TheVariants as kind
 use Rattle.rf_jtree.specs.declared.words.Kw.{Kw}
-use Rattle.rf_jfit.specs.declared.operators.TheConstants.{LEFT_PAREN, RIGHT_PAREN, LEFT_BRACE, RIGHT_BRACE, LEFT_BRACKET, RIGHT_BRACKET}
+use Rattle.rf_jtree.specs.declared.operator_names.TheConstants.{LEFT_PAREN, RIGHT_PAREN, LEFT_BRACE, RIGHT_BRACE, LEFT_BRACKET, RIGHT_BRACKET}
 
 -- this separator or operator
 abbrev pub IsOp : Op → Tok → Type 0

@@ -15,12 +15,12 @@ use Rattle.rf_jtree.specs.declared.decls.Unit.{Unit as File}
 use Rattle.rf_jtree.specs.declared.names.Many.{Many}
 use Rattle.rf_jtree.specs.declared.names.Name.{Name}
 use Rattle.rf_jtree.specs.declared.tokens.Tok.{Tok}
-use Rattle.rf_jfit.specs.DeclTrees.{ParamTree, ParamsTree, CtorCallTree, RetTree, BodyTree, MemberTree, TypeDeclTree, ImportTree, UnitTree}
-use Rattle.rf_jfit.specs.DeclTrees as t
-use Rattle.rf_jfit.specs.ExprShown.{args_shown}
-use Rattle.rf_jfit.specs.NameShown.{many_shown, name_shown, type_shown, mods_shown}
-use Rattle.rf_jfit.specs.NameTrees.{ManyTree, NameTree}
-use Rattle.rf_jfit.specs.StmtShown.{var_shown, block_shown, stmts_shown}
+use Rattle.rf_jtree.specs.DeclTrees.{ParamTree, ParamsTree, CtorCallTree, RetTree, BodyTree, MemberTree, TypeDeclTree, ImportTree, UnitTree}
+use Rattle.rf_jtree.specs.DeclTrees as t
+use Rattle.rf_jtree.specs.ExprShown.{args_shown}
+use Rattle.rf_jtree.specs.NameShown.{many_shown, name_shown, type_shown, mods_shown}
+use Rattle.rf_jtree.specs.NameTrees.{ManyTree, NameTree}
+use Rattle.rf_jtree.specs.StmtShown.{var_shown, block_shown, stmts_shown}
 
 -- names behind a keyword, as behind `throws`
 abbrev pub more_names_shown : List (Tok × Name) → List (Tok × NameTree)

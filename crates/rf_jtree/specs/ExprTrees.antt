@@ -4,7 +4,7 @@
 use Rattle.std.specs.Prelude.{ℕ, ◌+◌, max, List, [], ◌∷◌, ◌++◌, Option}
 use Rattle.rf_jtree.specs.declared.names.Dims.{Dims}
 use Rattle.rf_jtree.specs.declared.tokens.Tok.{Tok}
-use Rattle.rf_jfit.specs.NameTrees.{NameTree, TypeBaseTree, TypeUseTree, name_yield, base_yield, type_yield, dims_yield, option_yield, tok_yield}
+use Rattle.rf_jtree.specs.NameTrees.{NameTree, TypeBaseTree, TypeUseTree, name_yield, base_yield, type_yield, dims_yield, option_yield, tok_yield}
 
 mutual
   -- an expression (JLS 15)

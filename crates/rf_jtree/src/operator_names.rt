@@ -1,8 +1,8 @@
 ghost use Rattle.std.specs.Prelude.{◌≡◌, map, Some};
 ghost use Rattle.rf_jtree.specs.Operators.{operator_of};
-ghost use Rattle.rf_jfit.specs.Spelling.{OPERATOR_NAMES};
+ghost use Rattle.rf_jtree.specs.Spelling.{OPERATOR_NAMES};
 
-use rf_jtree::Op;
+use crate::Op;
 
 // The separators and operators of Java (JLS 3.11, 3.12).
 pub const LEFT_PAREN: Op = Op(0);

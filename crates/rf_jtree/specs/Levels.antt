@@ -4,10 +4,10 @@ use Rattle.rf_jtree.specs.declared.operators.Op.{Op}
 use Rattle.rf_jtree.specs.declared.tokens.Tok.{Tok}
 use Rattle.rf_jtree.specs.declared.tokens.TokKind.{TokKind}
 use Rattle.rf_jtree.specs.declared.tokens.TokKind.TheVariants as kind
-use Rattle.rf_jfit.specs.declared.levels.TheConstants.{ASSIGNMENT_LEVEL, CONDITIONAL_LEVEL, OR_OR_LEVEL, AND_AND_LEVEL, OR_LEVEL, XOR_LEVEL, AND_LEVEL, EQUALITY_LEVEL, COMPARISON_LEVEL, SHIFT_LEVEL, ADDITIVE_LEVEL, MULTIPLICATIVE_LEVEL, UNARY_LEVEL, POSTFIX_LEVEL, PRIMARY_LEVEL}
-use Rattle.rf_jfit.specs.declared.operators.TheConstants.{OR_OR, AND_AND, OR, XOR, AND, EQUALITIES, COMPARISONS, SHIFTS, ADDITIVES, MULTIPLICATIVES}
-use Rattle.rf_jfit.specs.ExprTrees.{ExprTree, Assign, Cond, Binary, Instance, Unary, Cast, Postfix}
-use Rattle.rf_jfit.specs.Kinds.{has_op}
+use Rattle.rf_jtree.specs.declared.levels.TheConstants.{ASSIGNMENT_LEVEL, CONDITIONAL_LEVEL, OR_OR_LEVEL, AND_AND_LEVEL, OR_LEVEL, XOR_LEVEL, AND_LEVEL, EQUALITY_LEVEL, COMPARISON_LEVEL, SHIFT_LEVEL, ADDITIVE_LEVEL, MULTIPLICATIVE_LEVEL, UNARY_LEVEL, POSTFIX_LEVEL, PRIMARY_LEVEL}
+use Rattle.rf_jtree.specs.declared.operator_names.TheConstants.{OR_OR, AND_AND, OR, XOR, AND, EQUALITIES, COMPARISONS, SHIFTS, ADDITIVES, MULTIPLICATIVES}
+use Rattle.rf_jtree.specs.ExprTrees.{ExprTree, Assign, Cond, Binary, Instance, Unary, Cast, Postfix}
+use Rattle.rf_jtree.specs.Kinds.{has_op}
 
 -- the level of a binary operator; that of an assignment where it is none
 abbrev pub op_level : Op → ℕ

@@ -14,11 +14,11 @@ use Rattle.rf_jtree.specs.declared.stmts.Stmt.{Stmt, fold-Stmt}
 use Rattle.rf_jtree.specs.declared.stmts.Stmt.TheOpen.{Stmt-F, Block-F, Catch-F, Group-F}
 use Rattle.rf_jtree.specs.declared.stmts.Var.{Var}
 use Rattle.rf_jtree.specs.declared.tokens.Tok.{Tok}
-use Rattle.rf_jfit.specs.ExprShown.{expr_shown, exprs_shown, init_shown}
-use Rattle.rf_jfit.specs.ExprTrees.{ExprTree, InitTree}
-use Rattle.rf_jfit.specs.NameShown.{many_shown, name_shown, type_shown, mods_shown}
-use Rattle.rf_jfit.specs.StmtTrees.{VarTree, LocalTree, ForFirstTree, StmtTree, BlockTree, StmtsTree, OtherTree, GroupTree, GroupsTree, CatchTree, CatchesTree, LastTree}
-use Rattle.rf_jfit.specs.StmtTrees as t
+use Rattle.rf_jtree.specs.ExprShown.{expr_shown, exprs_shown, init_shown}
+use Rattle.rf_jtree.specs.ExprTrees.{ExprTree, InitTree}
+use Rattle.rf_jtree.specs.NameShown.{many_shown, name_shown, type_shown, mods_shown}
+use Rattle.rf_jtree.specs.StmtTrees.{VarTree, LocalTree, ForFirstTree, StmtTree, BlockTree, StmtsTree, OtherTree, GroupTree, GroupsTree, CatchTree, CatchesTree, LastTree}
+use Rattle.rf_jtree.specs.StmtTrees as t
 
 -- declarations, and what a basic `for` begins with
 abbrev pub beginning_shown : Tok × Init → Tok × InitTree

@@ -4,9 +4,9 @@ use Rattle.std.specs.Prelude.{ℕ, max, List, [], ◌∷◌, ◌++◌, Option}
 use Rattle.std.specs.List.{flat_map}
 use Rattle.rf_jtree.specs.declared.names.Dims.{Dims}
 use Rattle.rf_jtree.specs.declared.tokens.Tok.{Tok}
-use Rattle.rf_jfit.specs.ExprTrees.{ArgsTree, args_yield, args_depth}
-use Rattle.rf_jfit.specs.NameTrees.{ManyTree, NameTree, TypeUseTree, ModTree, name_yield, type_yield, dims_yield, mods_yield, tok_yield, pair_yield, option_yield, many_yield, behind_yield, option_depth, many_depth, list_depth}
-use Rattle.rf_jfit.specs.StmtTrees.{BlockTree, StmtsTree, VarTree, block_yield, stmts_yield, var_yield, block_depth, stmts_depth, var_depth}
+use Rattle.rf_jtree.specs.ExprTrees.{ArgsTree, args_yield, args_depth}
+use Rattle.rf_jtree.specs.NameTrees.{ManyTree, NameTree, TypeUseTree, ModTree, name_yield, type_yield, dims_yield, mods_yield, tok_yield, pair_yield, option_yield, many_yield, behind_yield, option_depth, many_depth, list_depth}
+use Rattle.rf_jtree.specs.StmtTrees.{BlockTree, StmtsTree, VarTree, block_yield, stmts_yield, var_yield, block_depth, stmts_depth, var_depth}
 
 -- a parameter of a method or a constructor (JLS 8.4.1)
 pub record ParamTree : Type 0 where

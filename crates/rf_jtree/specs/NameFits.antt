@@ -6,10 +6,10 @@ use Rattle.rf_jtree.specs.declared.operators.Op.{Op}
 use Rattle.rf_jtree.specs.declared.tokens.Tok.{Tok}
 use Rattle.rf_jtree.specs.declared.tokens.TokKind.{TokKind}
 use Rattle.rf_jtree.specs.declared.tokens.TokKind.TheVariants as kind
-use Rattle.rf_jfit.specs.declared.operators.TheConstants.{COMMA, DOT, AT}
-use Rattle.rf_jfit.specs.declared.words.TheConstants.{PRIMITIVES, MODIFIERS, ACCESSES}
-use Rattle.rf_jfit.specs.Kinds.{IsOp, IsIdent, IsStr, AreParens, AreBrackets, AreBraces, is_key_of}
-use Rattle.rf_jfit.specs.NameTrees.{ManyTree, NameTree, TypeBaseTree, Prim, Named, TypeUseTree, StrsTree, One, Braced, ModTree, Word, Mark, Suppress}
+use Rattle.rf_jtree.specs.declared.operator_names.TheConstants.{COMMA, DOT, AT}
+use Rattle.rf_jtree.specs.declared.keyword_names.TheConstants.{PRIMITIVES, MODIFIERS, ACCESSES}
+use Rattle.rf_jtree.specs.Kinds.{IsOp, IsIdent, IsStr, AreParens, AreBrackets, AreBraces, is_key_of}
+use Rattle.rf_jtree.specs.NameTrees.{ManyTree, NameTree, TypeBaseTree, Prim, Named, TypeUseTree, StrsTree, One, Braced, ModTree, Word, Mark, Suppress}
 
 -- each item of a list fits
 abbrev pub EachFits : {A : Type 0} → (A → Type 0) → List A → Type 0

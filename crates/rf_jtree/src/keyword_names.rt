@@ -1,8 +1,8 @@
 ghost use Rattle.std.specs.Prelude.{◌≡◌, map, Some};
 ghost use Rattle.rf_jtree.specs.Words.{keyword_of};
-ghost use Rattle.rf_jfit.specs.Spelling.{KEYWORD_NAMES};
+ghost use Rattle.rf_jtree.specs.Spelling.{KEYWORD_NAMES};
 
-use rf_jtree::Kw;
+use crate::Kw;
 
 // The keywords of Java that have a place in a tree (JLS 3.9).
 pub const ABSTRACT: Kw = Kw(0);

@@ -15,12 +15,12 @@ use Rattle.rf_jtree.specs.declared.stmts.Stmt.{Stmt, fold-roll-Stmt}
 use Rattle.rf_jtree.specs.declared.stmts.Stmt.TheOpen.{Stmt-F, Block-F, Catch-F, Group-F}
 use Rattle.rf_jtree.specs.declared.stmts.Stmt.TheVariants as s
 use Rattle.rf_jtree.specs.declared.tokens.Tok.{Tok}
-use Rattle.rf_jfit.specs.ExprShown.{expr_shown, exprs_shown}
-use Rattle.rf_jfit.specs.NameShown.{name_shown, type_shown, mods_shown}
-use Rattle.rf_jfit.specs.StmtTrees.{StmtTree, BlockTree, CatchTree, GroupTree}
-use Rattle.rf_jfit.specs.StmtTrees as t
-use Rattle.rf_jfit.specs.StmtShown.{stmt_layer, block_layer, catch_layer, group_layer, stmts_tree, groups_tree, catches_tree}
-use Rattle.rf_jfit.specs.StmtShown.{local_shown, first_shown, message_shown, stmt_shown, block_shown, catch_shown, group_shown, stmts_shown, other_shown, groups_shown, catches_shown, last_shown}
+use Rattle.rf_jtree.specs.ExprShown.{expr_shown, exprs_shown}
+use Rattle.rf_jtree.specs.NameShown.{name_shown, type_shown, mods_shown}
+use Rattle.rf_jtree.specs.StmtTrees.{StmtTree, BlockTree, CatchTree, GroupTree}
+use Rattle.rf_jtree.specs.StmtTrees as t
+use Rattle.rf_jtree.specs.StmtShown.{stmt_layer, block_layer, catch_layer, group_layer, stmts_tree, groups_tree, catches_tree}
+use Rattle.rf_jtree.specs.StmtShown.{local_shown, first_shown, message_shown, stmt_shown, block_shown, catch_shown, group_shown, stmts_shown, other_shown, groups_shown, catches_shown, last_shown}
 
 -- lists of parts, each shown
 stmts_shown-map : (stmts : List Stmt) → stmts_tree (map stmt_shown stmts) ≡ stmts_shown stmts

@@ -5,16 +5,16 @@ use Rattle.rf_jtree.specs.declared.names.Dims.{Dims}
 use Rattle.rf_jtree.specs.declared.tokens.Tok.{Tok}
 use Rattle.rf_jtree.specs.declared.tokens.TokKind.{TokKind}
 use Rattle.rf_jtree.specs.declared.tokens.TokKind.TheVariants as kind
-use Rattle.rf_jfit.specs.declared.levels.TheConstants.{CONDITIONAL_LEVEL, OR_OR_LEVEL, COMPARISON_LEVEL, UNARY_LEVEL, POSTFIX_LEVEL, PRIMARY_LEVEL}
-use Rattle.rf_jfit.specs.declared.operators.TheConstants.{COMMA, DOT, QUESTION, COLON, ASSIGNMENTS, PREFIXES, SUFFIXES, OPERAND_OPERATORS}
-use Rattle.rf_jfit.specs.declared.words.TheConstants.{INSTANCEOF, NEW, SUPER, THIS, OPERAND_WORDS}
-use Rattle.rf_jfit.specs.ExprTrees.{ExprTree, Assign, Cond, Binary, Instance, Unary, Cast, Postfix, Lit, This, Paren, Name, Call, Field, Super, New, Index, NewArray, NewInit}
-use Rattle.rf_jfit.specs.ExprTrees.{OnTree, NoOn, On, ArgsTree, Args, SuperArgsTree, NoArgs, SuperArgs, ExprsTree, NoExprs, Exprs, MoreExprsTree, NoMoreExprs, MoreExprs, SizesTree, NoSizes, Sizes}
-use Rattle.rf_jfit.specs.ExprTrees.{InitTree, Value, Braced, BracesTree, Braces, InitsTree, NoInits, Inits, MoreInitsTree, NoMoreInits, MoreInits, expr_yield}
-use Rattle.rf_jfit.specs.Kinds.{IsOp, IsKey, IsIdent, AreParens, AreBrackets, AreBraces, is_op_of, has_op, has_key, is_literal}
-use Rattle.rf_jfit.specs.Levels.{BindsAt, binary_level}
-use Rattle.rf_jfit.specs.NameFits.{NameFits, BaseFits, DimsFit, TypeFits}
-use Rattle.rf_jfit.specs.NameTrees.{TypeBaseTree, Prim, Named, TypeUseTree}
+use Rattle.rf_jtree.specs.declared.levels.TheConstants.{CONDITIONAL_LEVEL, OR_OR_LEVEL, COMPARISON_LEVEL, UNARY_LEVEL, POSTFIX_LEVEL, PRIMARY_LEVEL}
+use Rattle.rf_jtree.specs.declared.operator_names.TheConstants.{COMMA, DOT, QUESTION, COLON, ASSIGNMENTS, PREFIXES, SUFFIXES, OPERAND_OPERATORS}
+use Rattle.rf_jtree.specs.declared.keyword_names.TheConstants.{INSTANCEOF, NEW, SUPER, THIS, OPERAND_WORDS}
+use Rattle.rf_jtree.specs.ExprTrees.{ExprTree, Assign, Cond, Binary, Instance, Unary, Cast, Postfix, Lit, This, Paren, Name, Call, Field, Super, New, Index, NewArray, NewInit}
+use Rattle.rf_jtree.specs.ExprTrees.{OnTree, NoOn, On, ArgsTree, Args, SuperArgsTree, NoArgs, SuperArgs, ExprsTree, NoExprs, Exprs, MoreExprsTree, NoMoreExprs, MoreExprs, SizesTree, NoSizes, Sizes}
+use Rattle.rf_jtree.specs.ExprTrees.{InitTree, Value, Braced, BracesTree, Braces, InitsTree, NoInits, Inits, MoreInitsTree, NoMoreInits, MoreInits, expr_yield}
+use Rattle.rf_jtree.specs.Kinds.{IsOp, IsKey, IsIdent, AreParens, AreBrackets, AreBraces, is_op_of, has_op, has_key, is_literal}
+use Rattle.rf_jtree.specs.Levels.{BindsAt, binary_level}
+use Rattle.rf_jtree.specs.NameFits.{NameFits, BaseFits, DimsFit, TypeFits}
+use Rattle.rf_jtree.specs.NameTrees.{TypeBaseTree, Prim, Named, TypeUseTree}
 
 -- The left side of an assignment is a name, a field or an item of an array; in parentheses it is none (JLS 15.26).
 abbrev pub IsLeftSide : ExprTree → Type 0

@@ -3,15 +3,15 @@
 use Rattle.std.specs.Prelude.{List, ◌⊎◌, Bool, true, false, Option, Some, None, IsTrue, IfSome}
 use Rattle.rf_jtree.specs.declared.tokens.Tok.{Tok}
 use Rattle.rf_jtree.specs.declared.words.Kw.{Kw}
-use Rattle.rf_jfit.specs.declared.operators.TheConstants.{COMMA, COLON, SEMICOLON, ASSIGN, SUFFIXES}
-use Rattle.rf_jfit.specs.declared.words.TheConstants.{ASSERT, BREAK, CASE, CATCH, CONTINUE, DEFAULT, DO, ELSE, FINAL, FINALLY, FOR, IF, RETURN, SWITCH, SYNCHRONIZED, THROW, TRY, WHILE}
-use Rattle.rf_jfit.specs.ExprFits.{ExprFits, ExprsFit, InitFits}
-use Rattle.rf_jfit.specs.ExprTrees.{ExprTree, Assign, Unary, Postfix, Call, Super, SuperArgs, New, ExprsTree, NoExprs, Exprs, MoreExprsTree, NoMoreExprs, MoreExprs, InitTree}
-use Rattle.rf_jfit.specs.Kinds.{IsOp, IsKey, IsIdent, AreParens, AreBraces, is_op_of}
-use Rattle.rf_jfit.specs.NameFits.{EachFits, ManyFit, NameFits, DimsFit, TypeFits, ModsFit}
-use Rattle.rf_jfit.specs.NameTrees.{ModTree, Word}
-use Rattle.rf_jfit.specs.StmtTrees.{VarTree, LocalTree, ForFirstTree, StmtTree, Block, Empty, Label, Value, If, While, Do, For, Each, Switch, Jump, Return, Throw, Sync, Assert, Try}
-use Rattle.rf_jfit.specs.StmtTrees.{BlockTree, Braces, StmtsTree, NoStmts, Stmts, OtherTree, NoOther, Other, GroupTree, Group, GroupsTree, NoGroups, Groups, CatchTree, Catch, CatchesTree, NoCatches, Catches, LastTree, NoLast, Last}
+use Rattle.rf_jtree.specs.declared.operator_names.TheConstants.{COMMA, COLON, SEMICOLON, ASSIGN, SUFFIXES}
+use Rattle.rf_jtree.specs.declared.keyword_names.TheConstants.{ASSERT, BREAK, CASE, CATCH, CONTINUE, DEFAULT, DO, ELSE, FINAL, FINALLY, FOR, IF, RETURN, SWITCH, SYNCHRONIZED, THROW, TRY, WHILE}
+use Rattle.rf_jtree.specs.ExprFits.{ExprFits, ExprsFit, InitFits}
+use Rattle.rf_jtree.specs.ExprTrees.{ExprTree, Assign, Unary, Postfix, Call, Super, SuperArgs, New, ExprsTree, NoExprs, Exprs, MoreExprsTree, NoMoreExprs, MoreExprs, InitTree}
+use Rattle.rf_jtree.specs.Kinds.{IsOp, IsKey, IsIdent, AreParens, AreBraces, is_op_of}
+use Rattle.rf_jtree.specs.NameFits.{EachFits, ManyFit, NameFits, DimsFit, TypeFits, ModsFit}
+use Rattle.rf_jtree.specs.NameTrees.{ModTree, Word}
+use Rattle.rf_jtree.specs.StmtTrees.{VarTree, LocalTree, ForFirstTree, StmtTree, Block, Empty, Label, Value, If, While, Do, For, Each, Switch, Jump, Return, Throw, Sync, Assert, Try}
+use Rattle.rf_jtree.specs.StmtTrees.{BlockTree, Braces, StmtsTree, NoStmts, Stmts, OtherTree, NoOther, Other, GroupTree, Group, GroupsTree, NoGroups, Groups, CatchTree, Catch, CatchesTree, NoCatches, Catches, LastTree, NoLast, Last}
 
 -- A local variable or a parameter has `final` and annotations alone (JLS 8.4.1, 14.4).
 abbrev pub IsFinalOrAnnotation : ModTree → Type 0

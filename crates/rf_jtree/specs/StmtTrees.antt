@@ -4,8 +4,8 @@
 use Rattle.std.specs.Prelude.{ℕ, ◌+◌, max, List, [], ◌∷◌, ◌++◌, Option}
 use Rattle.rf_jtree.specs.declared.names.Dims.{Dims}
 use Rattle.rf_jtree.specs.declared.tokens.Tok.{Tok}
-use Rattle.rf_jfit.specs.ExprTrees.{ExprTree, ExprsTree, InitTree, expr_yield, exprs_yield, init_yield, expr_depth, exprs_depth, init_depth}
-use Rattle.rf_jfit.specs.NameTrees.{ManyTree, NameTree, TypeUseTree, ModTree, name_yield, type_yield, dims_yield, mods_yield, tok_yield, option_yield, many_yield, behind_yield, option_depth, many_depth}
+use Rattle.rf_jtree.specs.ExprTrees.{ExprTree, ExprsTree, InitTree, expr_yield, exprs_yield, init_yield, expr_depth, exprs_depth, init_depth}
+use Rattle.rf_jtree.specs.NameTrees.{ManyTree, NameTree, TypeUseTree, ModTree, name_yield, type_yield, dims_yield, mods_yield, tok_yield, option_yield, many_yield, behind_yield, option_depth, many_depth}
 
 -- a variable: its name, brackets, and what it begins with (JLS 8.3, 14.4)
 pub record VarTree : Type 0 where

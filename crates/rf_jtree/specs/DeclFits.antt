@@ -4,15 +4,15 @@ use Rattle.std.specs.Prelude.{◌≡◌, ◌≢◌, List, [], ◌∷◌, ◌⊎�
 use Rattle.std.specs.List.{list_any}
 use Rattle.rf_jtree.specs.declared.tokens.Tok.{Tok}
 use Rattle.rf_jtree.specs.declared.words.Kw.{Kw}
-use Rattle.rf_jfit.specs.declared.operators.TheConstants.{COMMA, DOT, SEMICOLON, TIMES}
-use Rattle.rf_jfit.specs.declared.words.TheConstants.{ABSTRACT, CLASS, EXTENDS, IMPLEMENTS, IMPORT, INTERFACE, NATIVE, PACKAGE, PRIVATE, PROTECTED, STATIC, SUPER, THIS, THROWS, VOID, ACCESSES}
-use Rattle.rf_jfit.specs.DeclTrees.{ParamTree, ParamsTree, CtorCallTree, RetTree, Void, Value, BodyTree, Block, MemberTree, Init, Ctor, Method, Field, TypeDeclTree, ImportTree, UnitTree}
-use Rattle.rf_jfit.specs.ExprFits.{ArgsFit}
-use Rattle.rf_jfit.specs.Kinds.{IsOp, IsKey, IsIdent, AreParens, AreBraces, is_key_of}
-use Rattle.rf_jfit.specs.NameFits.{EachFits, ManyFit, NameFits, DimsFit, TypeFits, ModsFit}
-use Rattle.rf_jfit.specs.NameTrees.{ManyTree, NameTree, ModTree, Word}
-use Rattle.rf_jfit.specs.StmtFits.{VariableModsFit, VarFits, BlockFits, StmtsFit}
-use Rattle.rf_jfit.specs.StmtTrees.{VarTree}
+use Rattle.rf_jtree.specs.declared.operator_names.TheConstants.{COMMA, DOT, SEMICOLON, TIMES}
+use Rattle.rf_jtree.specs.declared.keyword_names.TheConstants.{ABSTRACT, CLASS, EXTENDS, IMPLEMENTS, IMPORT, INTERFACE, NATIVE, PACKAGE, PRIVATE, PROTECTED, STATIC, SUPER, THIS, THROWS, VOID, ACCESSES}
+use Rattle.rf_jtree.specs.DeclTrees.{ParamTree, ParamsTree, CtorCallTree, RetTree, Void, Value, BodyTree, Block, MemberTree, Init, Ctor, Method, Field, TypeDeclTree, ImportTree, UnitTree}
+use Rattle.rf_jtree.specs.ExprFits.{ArgsFit}
+use Rattle.rf_jtree.specs.Kinds.{IsOp, IsKey, IsIdent, AreParens, AreBraces, is_key_of}
+use Rattle.rf_jtree.specs.NameFits.{EachFits, ManyFit, NameFits, DimsFit, TypeFits, ModsFit}
+use Rattle.rf_jtree.specs.NameTrees.{ManyTree, NameTree, ModTree, Word}
+use Rattle.rf_jtree.specs.StmtFits.{VariableModsFit, VarFits, BlockFits, StmtsFit}
+use Rattle.rf_jtree.specs.StmtTrees.{VarTree}
 
 -- one of these words is among the modifiers
 abbrev pub is_word_of : List Kw → ModTree → Bool

@@ -15,11 +15,11 @@ use Rattle.rf_jtree.specs.declared.names.Name.{Name}
 use Rattle.rf_jtree.specs.declared.names.TypeBase.{TypeBase}
 use Rattle.rf_jtree.specs.declared.names.TypeUse.{TypeUse}
 use Rattle.rf_jtree.specs.declared.tokens.Tok.{Tok}
-use Rattle.rf_jfit.specs.ExprTrees.{ExprTree, InitTree, ArgsTree, BracesTree}
-use Rattle.rf_jfit.specs.ExprTrees as t
-use Rattle.rf_jfit.specs.NameShown.{name_shown, base_shown, type_shown}
-use Rattle.rf_jfit.specs.ExprShown.{expr_layer, init_layer, args_layer, braces_layer, more_exprs_tree, sizes_tree, more_inits_tree}
-use Rattle.rf_jfit.specs.ExprShown.{expr_shown, init_shown, args_shown, braces_shown, on_shown, super_args_shown, exprs_shown, more_exprs_shown, sizes_shown, inits_shown, more_inits_shown}
+use Rattle.rf_jtree.specs.ExprTrees.{ExprTree, InitTree, ArgsTree, BracesTree}
+use Rattle.rf_jtree.specs.ExprTrees as t
+use Rattle.rf_jtree.specs.NameShown.{name_shown, base_shown, type_shown}
+use Rattle.rf_jtree.specs.ExprShown.{expr_layer, init_layer, args_layer, braces_layer, more_exprs_tree, sizes_tree, more_inits_tree}
+use Rattle.rf_jtree.specs.ExprShown.{expr_shown, init_shown, args_shown, braces_shown, on_shown, super_args_shown, exprs_shown, more_exprs_shown, sizes_shown, inits_shown, more_inits_shown}
 
 -- lists of parts, each shown
 more_exprs_shown-map : (rest : List (Tok × Expr)) → more_exprs_tree (map (λ item. (item.0, expr_shown item.1)) rest) ≡ more_exprs_shown rest
