@@ -6,6 +6,7 @@ mod bytes;
 mod list;
 mod memory;
 mod names;
+mod order;
 mod short;
 mod span;
 #[cfg(test)]
