@@ -1,9 +1,15 @@
-ghost use Rattle.std.specs.Prelude.{◌≡◌, [], ◌∷◌, ◌++◌, ◌<◌, length, slice_get, slice_set, take, ◌↔◌, IsTrue, MatchOption, OnOk, OnErr, OnSome};
-ghost use Rattle.std.specs.Option.{option_copied};
+ghost use Rattle.std.specs.Prelude.{◌≡◌, [], ◌∷◌, ◌++◌, ◌<◌, length, slice_get, slice_set, take, ◌↔◌, IsTrue, MatchOption, IfOk, OnOk, OnErr, OnSome};
+ghost use Rattle.std.specs.Borrow.{sem};
+ghost use Rattle.std.specs.Iterator.Adapters.{IterYieldsInOrder, IterYieldsInReverse};
+ghost use Rattle.std.specs.Option.{option_copied, option_copied_mut};
+ghost use Rattle.std.specs.Slice.Iter.{iter_rest};
+
+mod order;
 
 use crate::Memory;
 use std::alloc::Global;
 use std::marker::Model;
+use std::slice::Iter;
 
 /// A growable list that contracts see as the list of its items.
 /// A type may lead back to itself through it, so trees are made of it.
@@ -24,12 +30,22 @@ impl<T> Model for List<T> {
 }
 
 impl<T> List<T> {
+    ghost use Rattle.rf_text.specs.List.{lends_item};
+
     pub fn new(alloc: Global) -> List<T>
         ensures { result ≡ [] }
     {
         List {
             items: Vec::new(alloc),
         }
+    }
+
+    /// An empty list with room for so many items.
+    pub fn with_capacity(alloc: Global, capacity: usize) -> Result<List<T>, Memory>
+        ensures { IfOk result (λ list. list ≡ []) }
+    {
+        let items = Vec::with_capacity(alloc, capacity)?;
+        Ok(List { items })
     }
 
     pub fn from_vec(items: Vec<T>) -> List<T>
@@ -68,6 +84,23 @@ impl<T> List<T> {
         ensures within { OnSome result (at < length self.now) }
     {
         self.items.get(at)
+    }
+
+    /// The item at a place, to be written.
+    pub fn get_mut(&mut self, at: usize) -> Option<&mut T>
+        ensures* writes_back { sem 𝓛 (lends_item T.row self.entry at result) }
+        ensures value { option_copied_mut result ≡ slice_get self.old at }
+    {
+        self.items.get_mut(at)
+    }
+
+    /// Gives the items in order, or from the back.
+    pub fn iter(&self) -> Iter<'_, T>
+        ensures rest { iter_rest result ≡ self.now }
+        ensures runs { IterYieldsInOrder T }
+        ensures runs_back { IterYieldsInReverse T }
+    {
+        self.items.as_slice().iter()
     }
 
     pub fn pop(&mut self) -> Option<T>

@@ -1,5 +1,5 @@
 /// The place of a text in a `Names`, from 0.
-#[derive(Clone, Copy, Debug, PartialEq, Eq)]
+#[derive(Clone, Copy, Debug, PartialEq, Eq, PartialOrd, Ord, Hash)]
 pub struct NameId(pub u32);
 
 /// A part of one file: the bytes from `from` up to before `to`, counted from 0.
