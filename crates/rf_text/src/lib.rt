@@ -2,6 +2,7 @@
 //! Contracts see a `Bytes` and a `List` as a list, and `Names` as the list of its distinct texts.
 #![tactic(auto)]
 
+mod boxed;
 mod bytes;
 mod list;
 mod memory;
@@ -12,6 +13,7 @@ mod span;
 #[cfg(test)]
 mod tests;
 
+pub use boxed::Boxed;
 pub use bytes::Bytes;
 pub use list::List;
 pub use memory::Memory;
