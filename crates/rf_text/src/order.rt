@@ -4,8 +4,8 @@ ghost use Rattle.std.specs.Ordering.{nat_cmp};
 ghost use Rattle.std.specs.Hash as fed;
 ghost use Rattle.std.specs.Cmp.Lexicographic.{pointwise, slice_cmp, nat_list_eq_equiv, nat_list_cmp_total, texts_ties, texts_po};
 ghost use Rattle.std.specs.Cmp.{partial_equiv_from_equiv};
-ghost use Rattle.std.specs.Cmp.Rules.{hashing};
-ghost use Rattle.std.proofs.Common.{rules};
+ghost use Rattle.std.specs.Hash.{items_Alike, same_Alike};
+ghost use Rattle.std.proofs.lemmas.Bool.Decides.{Decides-eqb};
 
 use crate::Bytes;
 use std::cmp::Ordering;
@@ -52,7 +52,7 @@ impl Ord for Bytes {
 impl Hash for Bytes {
     ghost hash_input = { fed.slice fed.u8 };
 
-    ghost respects_eq = { Prim.search (hashing, rules) };
+    ghost respects_eq = { (items_Alike (same_Alike fed.u8 Decides-eqb)).fed };
 
     fn hash<H: Hasher>(&self, state: &mut H) {
         self.as_slice().hash(state);
