@@ -1,4 +1,5 @@
 pub mod ExprShows
+pub mod IdentifierLemmas
 pub mod OperatorLemmas
 pub mod StmtShows
 pub mod TableLemmas
