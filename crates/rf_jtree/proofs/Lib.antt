@@ -1,6 +1,9 @@
 pub mod ExprShows
+pub mod DottedLemmas
 pub mod IdentifierLemmas
+pub mod KeywordLemmas
 pub mod OperatorLemmas
+pub mod SpanLemmas
 pub mod StmtShows
 pub mod TableLemmas
 pub mod WordLemmas

@@ -2,6 +2,7 @@ pub mod DeclFits
 pub mod DeclShown
 pub mod DeclTrees
 pub mod Digits
+pub mod Dotted
 pub mod Escapes
 pub mod ExprFits
 pub mod ExprShown
@@ -20,6 +21,8 @@ pub mod Spelling
 pub mod StmtFits
 pub mod StmtShown
 pub mod StmtTrees
+pub mod TokenKinds
+pub mod TokenSpans
 pub mod Tokens
 pub mod Trivia
 pub mod Words

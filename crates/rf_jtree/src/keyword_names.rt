@@ -1,4 +1,7 @@
-ghost use Rattle.std.specs.Prelude.{◌≡◌, map, Some};
+ghost use Rattle.std.specs.Prelude.{◌≡◌, map, Some, codes};
+ghost use Rattle.rf_jtree.specs.declared.tokens.TokKind.TheVariants as kind;
+ghost use Rattle.rf_jtree.specs.declared.words.Kw.{Kw};
+ghost use Rattle.rf_jtree.specs.Tokens.{IsToken};
 ghost use Rattle.rf_jtree.specs.Words.{keyword_of};
 ghost use Rattle.rf_jtree.specs.Spelling.{KEYWORD_NAMES};
 
@@ -126,4 +129,16 @@ pub const OPERAND_WORDS: [Kw; 3] = [THIS, SUPER, NEW];
 /// Each of the names is that of the keyword that its text spells.
 pub fn keywords_are_named()
     ensures { map (λ name. keyword_of name.0) KEYWORD_NAMES ≡ map (λ name. Some name.1) KEYWORD_NAMES }
+{}
+
+/// A text that spells a keyword is the token of that keyword.
+pub fn keywords_are_tokens(bytes: &[u8])
+    ensures { (word : Kw) → keyword_of bytes.now ≡ Some word → IsToken (kind.Key word) bytes.now }
+{}
+
+/// Each of the three access words is the token of its keyword (JLS 6.6).
+pub fn access_words_are_tokens()
+    ensures of_private { IsToken (kind.Key PRIVATE) (codes "private") }
+    ensures of_protected { IsToken (kind.Key PROTECTED) (codes "protected") }
+    ensures of_public { IsToken (kind.Key PUBLIC) (codes "public") }
 {}

@@ -2,6 +2,7 @@
 #![tactic(auto)]
 
 mod decls;
+mod dotted;
 mod exprs;
 mod identifiers;
 pub mod keyword_names;
@@ -13,6 +14,8 @@ mod stmts;
 mod tables;
 #[cfg(test)]
 mod tests;
+mod token_kinds;
+mod token_spans;
 mod tokens;
 mod words;
 
@@ -22,5 +25,6 @@ pub use identifiers::{is_identifier, is_letter, is_letter_or_digit, is_word, kin
 pub use names::{Dims, Many, Mod, Name, Strs, TypeBase, TypeUse};
 pub use operators::{Op, every_operator_is_found, operator, operators_are_found};
 pub use stmts::{Block, Catch, ForFirst, Group, Local, Stmt, Var};
+pub use token_spans::spans;
 pub use tokens::{Tok, TokKind, Toks};
 pub use words::{Kw, every_keyword_is_found, keyword, keywords_are_found};

@@ -1,5 +1,8 @@
+ghost use Rattle.std.specs.Prelude.{◌≡◌, IfOk};
+
 use crate::{Kw, Op};
-use rf_text::{Bytes, List};
+use rf_text::{Bytes, List, Memory};
+use std::alloc::Global;
 
 /// What sort of token it is (JLS 3.5).
 #[derive(Clone, Copy, Debug, PartialEq, Eq)]
@@ -32,4 +35,33 @@ pub struct Tok {
 pub struct Toks {
     pub list: List<Tok>,
     pub tail: Bytes,
+}
+
+impl Tok {
+    /// The same token once more.
+    pub fn copy(&self, alloc: Global) -> Result<Tok, Memory>
+        ensures { IfOk result (λ copied. copied ≡ self.now) }
+    {
+        let lead = self.lead.copy(alloc)?;
+        let text = self.text.copy(alloc)?;
+        Ok(Tok {
+            kind: self.kind,
+            lead,
+            text,
+        })
+    }
+}
+
+impl Toks {
+    /// The same tokens once more.
+    pub fn copy(&self, alloc: Global) -> Result<Toks, Memory>
+        ensures { IfOk result (λ copied. copied ≡ self.now) }
+    {
+        let mut list = List::new(alloc);
+        for tok in self.list.as_slice() {
+            list.push(tok.copy(alloc)?)?;
+        }
+        let tail = self.tail.copy(alloc)?;
+        Ok(Toks { list, tail })
+    }
 }
