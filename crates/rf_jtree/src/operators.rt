@@ -2,19 +2,21 @@ ghost use Rattle.std.specs.Prelude.{◌≡◌, ℕ, List, slice_get, Some, IsTru
 ghost use Rattle.rf_jtree.specs.Guesses.{operator_guess};
 ghost use Rattle.rf_jtree.specs.Operators.{OPERATORS, operator_of};
 
-use crate::tables::{byte_at, stands_at};
+use crate::tables::{byte_at, stands_at, texts};
 
 /// The place, from 0, of a separator or an operator in the list of both (JLS 3.11, 3.12).
 #[derive(Clone, Copy, Debug, PartialEq, Eq)]
 pub struct Op(pub u8);
 
-/// The separators and operators of Java (JLS 3.11, 3.12).
+/// The separators and operators of Java (JLS 3.11, 3.12), handed to the macro `$with`.
 #[rattlefmt::skip]
-static TEXTS: [&[u8]; 47] = [
-    b"(", b")", b"{", b"}", b"[", b"]", b";", b",", b".", b"@", b"=", b">", b"<", b"!", b"~", b"?", b":", b"==",
-    b"<=", b">=", b"!=", b"&&", b"||", b"++", b"--", b"+", b"-", b"*", b"/", b"&", b"|", b"^", b"%", b"<<", b">>",
-    b">>>", b"+=", b"-=", b"*=", b"/=", b"&=", b"|=", b"^=", b"%=", b"<<=", b">>=", b">>>=",
-];
+macro_rules! operators {
+    ($with:ident) => { $with!(
+        b"(", b")", b"{", b"}", b"[", b"]", b";", b",", b".", b"@", b"=", b">", b"<", b"!", b"~", b"?", b":", b"==",
+        b"<=", b">=", b"!=", b"&&", b"||", b"++", b"--", b"+", b"-", b"*", b"/", b"&", b"|", b"^", b"%", b"<<", b">>",
+        b">>>", b"+=", b"-=", b"*=", b"/=", b"&=", b"|=", b"^=", b"%=", b"<<=", b">>=", b">>>="
+    ) };
+}
 
 /// At each hash the place of the one text that has it: the bytes, the second one twice, have sums that tell the texts apart.
 #[rattlefmt::skip]
@@ -50,6 +52,7 @@ fn guess(bytes: &[u8]) -> u8
 pub fn operator(bytes: &[u8]) -> Option<Op>
     ensures { result ≡ operator_of bytes.now }
 {
+    static TEXTS: [&[u8]; 47] = operators!(texts);
     let place = guess(bytes);
     if stands_at(&TEXTS, place, bytes) {
         Some(Op(place))
@@ -76,6 +79,7 @@ fn each_is_found(words: &[&[u8]]) -> bool
 pub fn every_operator_is_found() -> bool
     ensures { IsTrue result }
 {
+    static TEXTS: [&[u8]; 47] = operators!(texts);
     each_is_found(&TEXTS)
 }
 

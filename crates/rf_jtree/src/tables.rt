@@ -1,6 +1,13 @@
 ghost use Rattle.std.specs.Prelude.{◌≡◌, ◌<◌, map};
 ghost use Rattle.rf_jtree.specs.Guesses.{byte_at, stands_at};
 
+/// The array of the texts of a table.
+macro_rules! texts {
+    ($($text:literal),*) => { [$($text),*] };
+}
+
+pub(crate) use texts;
+
 /// The byte at this place, or 0 behind the end.
 pub(crate) fn byte_at(bytes: &[u8], at: usize) -> usize
     ensures value { result ≡ byte_at bytes.now at }

@@ -2,21 +2,23 @@ ghost use Rattle.std.specs.Prelude.{◌≡◌, ℕ, List, slice_get, Some, IsTru
 ghost use Rattle.rf_jtree.specs.Guesses.{keyword_guess};
 ghost use Rattle.rf_jtree.specs.Words.{keyword_of, KEYWORDS};
 
-use crate::tables::{byte_at, stands_at};
+use crate::tables::{byte_at, stands_at, texts};
 
 /// The place, from 0, of a keyword in the list of the 50 keywords in alphabetical order (JLS 3.9).
 #[derive(Clone, Copy, Debug, PartialEq, Eq)]
 pub struct Kw(pub u8);
 
-/// The keywords of Java (JLS 3.9).
+/// The keywords of Java (JLS 3.9), handed to the macro `$with`.
 #[rattlefmt::skip]
-static WORDS: [&[u8]; 50] = [
-    b"abstract", b"assert", b"boolean", b"break", b"byte", b"case", b"catch", b"char", b"class", b"const",
-    b"continue", b"default", b"do", b"double", b"else", b"enum", b"extends", b"final", b"finally", b"float", b"for",
-    b"goto", b"if", b"implements", b"import", b"instanceof", b"int", b"interface", b"long", b"native", b"new",
-    b"package", b"private", b"protected", b"public", b"return", b"short", b"static", b"strictfp", b"super", b"switch",
-    b"synchronized", b"this", b"throw", b"throws", b"transient", b"try", b"void", b"volatile", b"while",
-];
+macro_rules! keywords {
+    ($with:ident) => { $with!(
+        b"abstract", b"assert", b"boolean", b"break", b"byte", b"case", b"catch", b"char", b"class", b"const",
+        b"continue", b"default", b"do", b"double", b"else", b"enum", b"extends", b"final", b"finally", b"float", b"for",
+        b"goto", b"if", b"implements", b"import", b"instanceof", b"int", b"interface", b"long", b"native", b"new",
+        b"package", b"private", b"protected", b"public", b"return", b"short", b"static", b"strictfp", b"super", b"switch",
+        b"synchronized", b"this", b"throw", b"throws", b"transient", b"try", b"void", b"volatile", b"while"
+    ) };
+}
 
 /// At each hash the place of the one keyword that has it: the length and the first two letters tell the keywords apart.
 #[rattlefmt::skip]
@@ -51,6 +53,7 @@ fn guess(bytes: &[u8]) -> u8
 pub fn keyword(bytes: &[u8]) -> Option<Kw>
     ensures { result ≡ keyword_of bytes.now }
 {
+    static WORDS: [&[u8]; 50] = keywords!(texts);
     let place = guess(bytes);
     if stands_at(&WORDS, place, bytes) {
         Some(Kw(place))
@@ -77,6 +80,7 @@ fn each_is_found(words: &[&[u8]]) -> bool
 pub fn every_keyword_is_found() -> bool
     ensures { IsTrue result }
 {
+    static WORDS: [&[u8]; 50] = keywords!(texts);
     each_is_found(&WORDS)
 }
 
