@@ -76,3 +76,30 @@ pub stands_not_behind : (table : List (Bor (List ℕ))) (place : ℕ) (bytes : L
 unfolding stands_at
 stands_not_behind table place bytes behind =
     sym (ap (λ found. is_found found bytes) (slice_get-map (λ text. text.now) table place ∙ ap (option_map (λ text. text.now)) (slice_get_past table place behind)))
+
+-- A table whose texts name things of a type, each by its place, as the keywords do: what a place names, the place of what is
+-- named, and a guess that gives each text its place.
+pub record Table (A : Type 0) : Type 0 where
+  pub texts : List (List ℕ)
+  pub guess : List ℕ → ℕ
+  pub named : Option ℕ → Option A
+  pub place : Option A → Option ℕ
+  pub place-named : (found : Option ℕ) → place (named found) ≡ found
+  pub places : map (place_in texts) texts ≡ numbered 0 texts
+  pub guesses : map (λ text. Some (guess text)) texts ≡ numbered 0 texts
+
+-- each text names what its place names
+pub names_at : {A : Type 0} (table : Table A) (n : ℕ) (text : List ℕ) → slice_get table.texts n ≡ Some text → table.named (place_in table.texts text) ≡ table.named (Some n)
+names_at table n text at = ap table.named (at_place (place_in table.texts) table.texts 0 n text table.places at ∙ ap Some (omega arith))
+
+-- also where the table is one of borrowed texts
+pub names_at_borrowed : {A : Type 0} (table : Table A) (texts : List (Bor (List ℕ))) (n : ℕ) (absent : Bor (List ℕ)) → map (λ text. text.now) texts ≡ table.texts → n < length texts → table.named (place_in table.texts (get_or texts n absent).now) ≡ table.named (Some n)
+names_at_borrowed table texts n absent same within = names_at table n (get_or texts n absent).now (stands_borrowed texts table.texts n absent same within)
+
+-- and a text that names what a place names stands there
+pub text_at : {A : Type 0} (table : Table A) (n : ℕ) (text : List ℕ) → table.named (place_in table.texts text) ≡ table.named (Some n) → slice_get table.texts n ≡ Some text
+text_at table n text is = stands_at_place table.texts n text (sym (table.place-named (place_in table.texts text)) ∙ ap table.place is ∙ table.place-named (Some n))
+
+-- so what a text names is looked up at the place that is guessed, and nowhere else
+pub names_as_guessed : {A : Type 0} (table : Table A) (text : List ℕ) (stands : Bool) → stands_at table.texts (table.guess text) text ≡ stands → table.named (place_in table.texts text) ≡ table.named (if_there stands (table.guess text))
+names_as_guessed table text stands is = ap table.named (place_in-guess table.guess table.texts table.places table.guesses text stands is)
