@@ -10,8 +10,6 @@ mod mod_checks;
 mod name_checks;
 mod stmt_checks;
 mod stmt_form_checks;
-#[cfg(test)]
-mod tests;
 mod unit_checks;
 mod variable_checks;
 

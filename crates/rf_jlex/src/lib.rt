@@ -11,8 +11,6 @@ mod numbers;
 mod operators;
 mod pieces;
 mod quoted;
-#[cfg(test)]
-mod tests;
 mod words;
 
 pub use laws::{a_fault_has_no_tokens, bytes_come_back, faults_are_unique, token_lists_are_unique};

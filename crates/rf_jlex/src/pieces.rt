@@ -7,8 +7,8 @@ use crate::comments::{block_comment, line_comment};
 use crate::numbers::longest_number;
 use crate::operators::longest_operator;
 use crate::quoted::{character_literal, string_literal};
-use crate::words::{kind_of_word, longest_word};
-use rf_jtree::TokKind;
+use crate::words::longest_word;
+use rf_jtree::{TokKind, kind_of_word};
 
 /// The sorts of pieces that a text is cut into (JLS 3.5).
 #[derive(Clone, Copy, Debug, PartialEq, Eq)]

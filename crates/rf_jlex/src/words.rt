@@ -1,12 +1,11 @@
 ghost use Rattle.std.specs.Prelude.{◌≡◌, ℕ, List, MatchOption, length, drop};
 ghost use Rattle.std.specs.List.{take_while};
-ghost use Rattle.rf_jtree.specs.Identifiers.{is_letter, is_letter_or_digit, word_kind};
+ghost use Rattle.rf_jtree.specs.Identifiers.{is_letter, is_letter_or_digit};
 ghost use Rattle.rf_jlex.specs.Fronts.{GivesWord};
 ghost use Rattle.rf_jlex.specs.Letters.{BeginsWithCharacter, BeginsWithPassing, is_ascii_letter_or_digit};
 
 use bstr::decode_utf8;
-use rf_jtree::{TokKind, keyword};
-use unicode_ident::{is_xid_continue, is_xid_start};
+use rf_jtree::{is_letter, is_letter_or_digit};
 
 /// A text cut behind its first character.
 #[derive(Clone, Copy, Debug)]
@@ -28,20 +27,6 @@ fn first_character(text: &[u8]) -> Option<FirstCharacter<'_>>
         }),
         (None, _) => None,
     }
-}
-
-/// Whether a word may begin with the character (JLS 3.8).
-fn is_letter(character: char) -> bool
-    ensures { result ≡ is_letter character }
-{
-    is_xid_start(character) || character == '_' || character == '$'
-}
-
-/// Whether a word may go on with the character (JLS 3.8).
-fn is_letter_or_digit(character: char) -> bool
-    ensures { result ≡ is_letter_or_digit character }
-{
-    is_xid_continue(character) || character == '$'
 }
 
 /// What follows the letter that `text` begins with, if it begins with one.
@@ -106,21 +91,4 @@ pub(crate) fn longest_word(text: &[u8]) -> Option<usize>
         rest = after_ascii(more);
     }
     Some(text.len() - rest.len())
-}
-
-/// What the word is (JLS 3.8, 3.9).
-pub(crate) fn kind_of_word(word: &[u8]) -> TokKind
-    ensures { result ≡ word_kind word.now }
-{
-    if let Some(keyword) = keyword(word) {
-        TokKind::Key(keyword)
-    } else if word == b"true".as_slice() {
-        TokKind::True
-    } else if word == b"false".as_slice() {
-        TokKind::False
-    } else if word == b"null".as_slice() {
-        TokKind::Null
-    } else {
-        TokKind::Ident
-    }
 }

@@ -7,6 +7,7 @@ pub mod Escapes
 pub mod ExprFits
 pub mod ExprShown
 pub mod ExprTrees
+pub mod FileTree
 pub mod Guesses
 pub mod Identifiers
 pub mod Kinds

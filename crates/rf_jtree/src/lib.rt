@@ -12,8 +12,6 @@ pub mod operator_names;
 mod operators;
 mod stmts;
 mod tables;
-#[cfg(test)]
-mod tests;
 mod token_kinds;
 mod token_spans;
 mod tokens;
@@ -25,6 +23,6 @@ pub use identifiers::{is_identifier, is_letter, is_letter_or_digit, is_word, kin
 pub use names::{Dims, Many, Mod, Name, Strs, TypeBase, TypeUse};
 pub use operators::{Op, every_operator_is_found, operator, operators_are_found};
 pub use stmts::{Block, Catch, ForFirst, Group, Local, Stmt, Var};
-pub use token_spans::spans;
+pub use token_spans::{spans, spans_are_texts};
 pub use tokens::{Tok, TokKind, Toks};
 pub use words::{Kw, every_keyword_is_found, keyword, keywords_are_found};

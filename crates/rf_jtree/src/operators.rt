@@ -85,6 +85,8 @@ pub fn every_operator_is_found() -> bool
 
 /// Each text of the list is an operator with its own place, and nothing else is one.
 pub fn operators_are_found(bytes: &[u8])
-    ensures each { (n : ℕ) (word : List ℕ) → slice_get OPERATORS n ≡ Some word → operator_of word ≡ Some (record { 0 = n }) }
-    ensures only { (n : ℕ) → operator_of bytes.now ≡ Some (record { 0 = n }) → slice_get OPERATORS n ≡ Some bytes.now }
+    ensures each { (n : ℕ) (word : List ℕ)
+        → slice_get OPERATORS n ≡ Some word → operator_of word ≡ Some (record { 0 = n }) }
+    ensures only { (n : ℕ)
+        → operator_of bytes.now ≡ Some (record { 0 = n }) → slice_get OPERATORS n ≡ Some bytes.now }
 {}

@@ -1,4 +1,6 @@
-ghost use Rattle.std.specs.Prelude.{◌≡◌, ℕ, ◌^◌, ◌<◌, length, slice_get, IfOk};
+ghost use Rattle.std.specs.Prelude.{◌≡◌, ℕ, ◌^◌, ◌<◌, length, slice_get, slice_range, IfOk, Some};
+ghost use Rattle.rf_text.specs.declared.span.Span.{Span};
+ghost use Rattle.rf_jtree.specs.declared.tokens.Tok.{Tok};
 ghost use Rattle.rf_jtree.specs.TokenSpans.{span_of};
 ghost use Rattle.rf_jtree.specs.Tokens.{toks_bytes};
 
@@ -24,3 +26,10 @@ pub fn spans(alloc: Global, file: u32, toks: &Toks) -> Result<List<Span>, Memory
     }
     Ok(spans)
 }
+
+/// The bytes of a file at the span of a token are the text of that token.
+pub fn spans_are_texts(toks: &Toks)
+    ensures { (file n : ℕ) (tok : Tok) (span : Span)
+        → slice_get toks.now.list n ≡ Some tok → span_of file toks.now.list n ≡ Some span
+        → slice_range (toks_bytes toks.now) span.from span.to ≡ tok.text }
+{}

@@ -86,6 +86,8 @@ pub fn every_keyword_is_found() -> bool
 
 /// Each word of the list is a keyword with its own place, and nothing else is one.
 pub fn keywords_are_found(bytes: &[u8])
-    ensures each { (n : ℕ) (word : List ℕ) → slice_get KEYWORDS n ≡ Some word → keyword_of word ≡ Some (record { 0 = n }) }
-    ensures only { (n : ℕ) → keyword_of bytes.now ≡ Some (record { 0 = n }) → slice_get KEYWORDS n ≡ Some bytes.now }
+    ensures each { (n : ℕ) (word : List ℕ)
+        → slice_get KEYWORDS n ≡ Some word → keyword_of word ≡ Some (record { 0 = n }) }
+    ensures only { (n : ℕ)
+        → keyword_of bytes.now ≡ Some (record { 0 = n }) → slice_get KEYWORDS n ≡ Some bytes.now }
 {}

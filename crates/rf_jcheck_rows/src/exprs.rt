@@ -1,7 +1,7 @@
 //! Expressions (JLS 15).
 
-use crate::expr_fits;
-use crate::tests::trees::Trees;
+use crate::trees::Trees;
+use rf_jcheck::expr_fits;
 use std::test::Fail;
 
 #[test]

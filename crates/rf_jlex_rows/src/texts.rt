@@ -1,6 +1,6 @@
 //! Texts, token by token, as the Java specification has them: each form beside its nearest neighbour.
 
-use crate::{LexErr, lex};
+use rf_jlex::{LexErr, lex};
 use rf_jtree::TokKind;
 use rf_text::{Bytes, Memory};
 use std::alloc::Global;

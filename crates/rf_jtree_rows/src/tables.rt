@@ -1,6 +1,6 @@
 //! The words and operators of the Java specification beside their nearest neighbours.
 
-use crate::{Kw, Op, every_keyword_is_found, every_operator_is_found, keyword, operator};
+use rf_jtree::{Kw, Op, every_keyword_is_found, every_operator_is_found, keyword, operator};
 use std::test::Fail;
 
 #[test]

@@ -1,7 +1,7 @@
 //! Statements (JLS 14).
 
-use crate::stmt_fits;
-use crate::tests::trees::Trees;
+use crate::trees::Trees;
+use rf_jcheck::stmt_fits;
 use rf_jtree::ForFirst;
 use std::test::Fail;
 

@@ -1,7 +1,7 @@
 //! Types and files (JLS 7, 8, 9).
 
-use crate::tests::trees::Trees;
-use crate::{decl_fits, unit_fits};
+use crate::trees::Trees;
+use rf_jcheck::{decl_fits, unit_fits};
 use std::test::Fail;
 
 #[test]

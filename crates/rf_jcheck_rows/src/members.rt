@@ -1,7 +1,7 @@
 //! Members (JLS 8.3, 8.4, 8.8).
 
-use crate::member_fits;
-use crate::tests::trees::Trees;
+use crate::trees::Trees;
+use rf_jcheck::member_fits;
 use std::test::Fail;
 
 #[test]

@@ -1,6 +1,6 @@
 //! Members, types and files made by hand.
 
-use crate::tests::trees::Trees;
+use crate::trees::Trees;
 use rf_jtree::{
     Body, Import, Init, Member, Mod, Param, Params, Ret, Tok, TypeDecl, TypeUse, Unit, Var,
 };

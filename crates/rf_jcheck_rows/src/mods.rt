@@ -1,7 +1,7 @@
 //! Modifiers (JLS 8.1.1, 8.3.1, 8.4.3, 9.7).
 
-use crate::mods_fit;
-use crate::tests::trees::Trees;
+use crate::trees::Trees;
+use rf_jcheck::mods_fit;
 use std::test::Fail;
 
 #[test]

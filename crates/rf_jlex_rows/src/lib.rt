@@ -1,0 +1,5 @@
+//! Tests of the lexer: each form of piece beside its nearest neighbours.
+#![tactic(auto)]
+
+#[cfg(test)]
+mod texts;

@@ -1,0 +1,9 @@
+//! Tests of tokens: words and operators, new names, spans and dotted names.
+#![tactic(auto)]
+
+#[cfg(test)]
+mod names;
+#[cfg(test)]
+mod tables;
+#[cfg(test)]
+mod tokens;
