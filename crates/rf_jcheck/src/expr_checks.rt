@@ -86,12 +86,12 @@ pub fn expr_fits(expr: &Expr) -> bool
 }
 
 #[cycle(expr)]
-fn on_fits(on: &Option<(Box<Expr>, Tok)>) -> bool
+fn on_fits(on: &Option<Box<(Box<Expr>, Tok)>>) -> bool
     ensures { IsTrue result ↔ OnFits (on_shown on.now) }
 {
     match on {
         None => true,
-        Some((value, dot)) => is_on(value, dot) && expr_fits(value),
+        Some(on) => is_on(&on.0, &on.1) && expr_fits(&on.0),
     }
 }
 
@@ -120,7 +120,7 @@ pub fn args_fit(args: &Args) -> bool
 }
 
 #[cycle(expr)]
-fn super_args_fit(args: &Option<Args>) -> bool
+fn super_args_fit(args: &Option<Box<Args>>) -> bool
     ensures { IsTrue result ↔ SuperArgsFit (super_args_shown args.now) }
 {
     match args {

@@ -18,7 +18,7 @@ impl<'a, R: Abort + AllocGlobal> Trees<'a, R> {
     }
 
     pub fn begins(&self) -> Option<(Tok, Init)> {
-        Some((self.tok("="), Init::Value(Box::into_inner(self.lit()))))
+        Some((self.tok("="), Init::Value(self.lit())))
     }
 
     pub fn int(&self) -> TypeUse {

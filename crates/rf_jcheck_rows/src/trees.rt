@@ -1,7 +1,7 @@
 //! Trees made by hand, for the tests: `t.binary(t.name("a"), "+", t.name("b"))`.
 
 use rf_jtree::{
-    Args, Block, Braces, Dims, Expr, ForFirst, Local, Many, Mod, Name, Stmt, Tok, TokKind,
+    Args, Block, Braces, Dims, Dotted, Expr, ForFirst, Local, Many, Mod, Name, Stmt, Tok, TokKind,
     TypeBase, TypeUse, Var, keyword, operator,
 };
 use rf_text::{Bytes, List};
@@ -72,7 +72,10 @@ impl<'a, R: Abort + AllocGlobal> Trees<'a, R> {
     /// A name of one identifier.
     pub fn id(&self, text: &str) -> Name {
         Name {
-            ids: self.only(self.tok(text)),
+            ids: Dotted {
+                first: self.tok(text),
+                rest: self.none(),
+            },
         }
     }
 
@@ -133,7 +136,13 @@ impl<'a, R: Abort + AllocGlobal> Trees<'a, R> {
     }
 
     pub fn cond(&self, test: Box<Expr>, then: Box<Expr>, other: Box<Expr>) -> Box<Expr> {
-        self.boxed(Expr::Cond(test, self.tok("?"), then, self.tok(":"), other))
+        self.boxed(Expr::Cond(
+            test,
+            self.boxed(self.tok("?")),
+            then,
+            self.boxed(self.tok(":")),
+            other,
+        ))
     }
 
     pub fn unary(&self, op: &str, value: Box<Expr>) -> Box<Expr> {
@@ -145,19 +154,24 @@ impl<'a, R: Abort + AllocGlobal> Trees<'a, R> {
     }
 
     pub fn cast(&self, sort: TypeUse, value: Box<Expr>) -> Box<Expr> {
-        self.boxed(Expr::Cast(self.tok("("), sort, self.tok(")"), value))
+        self.boxed(Expr::Cast(
+            self.tok("("),
+            self.boxed(sort),
+            self.boxed(self.tok(")")),
+            value,
+        ))
     }
 
     pub fn paren(&self, value: Box<Expr>) -> Box<Expr> {
-        self.boxed(Expr::Paren(self.tok("("), value, self.tok(")")))
+        self.boxed(Expr::Paren(self.tok("("), value, self.boxed(self.tok(")"))))
     }
 
-    pub fn args(&self) -> Args {
-        Args {
+    pub fn args(&self) -> Box<Args> {
+        self.boxed(Args {
             left: self.tok("("),
             list: None,
             right: self.tok(")"),
-        }
+        })
     }
 
     pub fn call(&self) -> Box<Expr> {
@@ -169,18 +183,18 @@ impl<'a, R: Abort + AllocGlobal> Trees<'a, R> {
     }
 
     pub fn field(&self, value: Box<Expr>) -> Box<Expr> {
-        self.boxed(Expr::Field(value, self.tok("."), self.tok("x")))
+        self.boxed(Expr::Field(value, self.boxed(self.tok(".")), self.tok("x")))
     }
 
     pub fn index(&self, value: Box<Expr>) -> Box<Expr> {
-        self.boxed(Expr::Index(value, self.tok("["), self.lit(), self.tok("]")))
+        self.boxed(Expr::Index(value, self.tok("["), self.lit(), self.boxed(self.tok("]"))))
     }
 
     /// `new int[1]`, with these brackets behind it.
     pub fn new_array(&self, dims: Dims) -> Box<Expr> {
         self.boxed(Expr::NewArray {
-            word: self.tok("new"),
-            base: TypeBase::Prim(self.tok("int")),
+            word: self.boxed(self.tok("new")),
+            base: self.boxed(TypeBase::Prim(self.tok("int"))),
             sizes: self.one((self.tok("["), Expr::Lit(self.tok("1")), self.tok("]"))),
             dims,
         })
@@ -189,15 +203,15 @@ impl<'a, R: Abort + AllocGlobal> Trees<'a, R> {
     /// `new int` with these brackets and `{}`.
     pub fn new_init(&self, dims: Dims) -> Box<Expr> {
         self.boxed(Expr::NewInit {
-            word: self.tok("new"),
-            base: TypeBase::Prim(self.tok("int")),
+            word: self.boxed(self.tok("new")),
+            base: self.boxed(TypeBase::Prim(self.tok("int"))),
             dims,
-            init: Braces {
+            init: self.boxed(Braces {
                 left: self.tok("{"),
                 items: None,
                 comma: None,
                 right: self.tok("}"),
-            },
+            }),
         })
     }
 

@@ -1,5 +1,7 @@
 -- Tests of expressions, and what lists of parts show as and how deep they are.
 use Rattle.std.proofs.Common.{◌≡◌, max, List, [], ◌∷◌, Option, Some, None, map, Bool, true, false, IsTrue, ◌↔◌, refl, ap, sym}
+use Rattle.std.specs.declared.alloc.Global.{Global}
+use Rattle.std.specs.declared.boxed.Box.{Box}
 use Rattle.rf_jtree.specs.declared.exprs.Args.{Args}
 use Rattle.rf_jtree.specs.declared.exprs.Expr.{Expr}
 use Rattle.rf_jtree.specs.declared.exprs.Init.{Init}
@@ -51,7 +53,7 @@ pub sizes-depth : (sizes : List (Tok × ExprTree × Tok)) → sizes_depth (sizes
 sizes-depth [] = refl
 sizes-depth (size ∷ rest) = ap (max (size_depth size)) (sizes-depth rest)
 
-pub super_args-shown : (list : Option Args) → super_args_tree (super_args_found list) ≡ super_args_shown list
+pub super_args-shown : (list : Option (Box Args Global)) → super_args_tree (super_args_found list) ≡ super_args_shown list
 super_args-shown None = refl
 super_args-shown (Some list) = refl
 

@@ -3,12 +3,13 @@ use Rattle.std.specs.Prelude.{◌≡◌, ℕ, ◌+◌, ◌++◌, max, List, [], 
 use Rattle.std.specs.declared.alloc.Global.{Global}
 use Rattle.std.specs.declared.boxed.Box.{Box}
 use Rattle.rf_jtree.specs.declared.exprs.Args.{Args}
+use Rattle.rf_jtree.specs.declared.exprs.Braces.{Braces}
 use Rattle.rf_jtree.specs.declared.exprs.Expr.{Expr}
 use Rattle.rf_jtree.specs.declared.exprs.Init.{Init}
 use Rattle.rf_jtree.specs.declared.names.Many.{Many}
 use Rattle.rf_jtree.specs.declared.tokens.Tok.{Tok}
-use Rattle.rf_jtree.specs.ExprShown.{expr_shown, init_shown, args_shown, super_args_tree}
-use Rattle.rf_jtree.specs.ExprTrees.{ExprTree, Postfix, InitTree, ArgsTree, expr_depth, init_depth, exprs_depth, inits_depth, super_args_depth}
+use Rattle.rf_jtree.specs.ExprShown.{expr_shown, init_shown, args_shown, braces_shown, super_args_tree}
+use Rattle.rf_jtree.specs.ExprTrees.{ExprTree, Postfix, InitTree, ArgsTree, BracesTree, expr_depth, init_depth, exprs_depth, inits_depth, super_args_depth}
 use Rattle.rf_jtree.specs.NameShown.{many_shown}
 use Rattle.rf_jtree.specs.NameTrees.{ManyTree}
 use Rattle.rf_jexpr.specs.declared.found.Found.{Found}
@@ -21,6 +22,12 @@ boxed_shown boxed = expr_shown boxed.value
 
 abbrev pub boxed_init_shown : Box Init Global → InitTree
 boxed_init_shown boxed = init_shown boxed.value
+
+abbrev pub boxed_args_shown : Box Args Global → ArgsTree
+boxed_args_shown boxed = args_shown boxed.value
+
+abbrev pub boxed_braces_shown : Box Braces Global → BracesTree
+boxed_braces_shown boxed = braces_shown boxed.value
 
 -- the depth that goes with an expression is its own
 abbrev pub IsKnown : Found (Box Expr Global) → Type 0
@@ -68,8 +75,8 @@ inits_found list = option_map (many_shown init_shown) list
 abbrev pub inits_found_depth : Option (ManyTree InitTree) → ℕ
 inits_found_depth list = inits_depth (inits_of list)
 
-abbrev pub super_args_found : Option Args → Option ArgsTree
-super_args_found list = option_map args_shown list
+abbrev pub super_args_found : Option (Box Args Global) → Option ArgsTree
+super_args_found list = option_map boxed_args_shown list
 
 abbrev pub super_args_found_depth : Option ArgsTree → ℕ
 super_args_found_depth list = super_args_depth (super_args_tree list)

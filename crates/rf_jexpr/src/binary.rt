@@ -10,7 +10,7 @@ ghost use Rattle.rf_jexpr.specs.Tails.{operated};
 
 use crate::ParseErr;
 use crate::cursor::{Want, copy_tok, is_at, take, tok_at};
-use crate::found::{Found, Taken, attempt, deeper};
+use crate::found::{Found, Taken, attempt, deeper, put};
 use crate::names::type_use;
 use crate::nodes::{Operation, Tail, operated};
 use crate::unary::unary;
@@ -77,8 +77,9 @@ fn instance(
     }
     let word = take(alloc, t, value.end, Want::Key(INSTANCEOF))?;
     let sort = type_use(alloc, t, word.end)?;
+    let of = put(alloc, sort.item)?;
     Ok(Found {
-        tree: Tail::Instance(word.item, sort.item),
+        tree: Tail::Instance(word.item, of),
         end: sort.end,
         depth: value.depth + 1,
     })

@@ -1,11 +1,11 @@
 ghost use Rattle.std.specs.Prelude.{◌≡◌, ◌++◌, ◌∷◌, max, map, IfOk};
-ghost use Rattle.rf_jtree.specs.ExprShown.{expr_shown, init_shown, args_shown, braces_shown, sizes_tree, super_args_tree};
+ghost use Rattle.rf_jtree.specs.ExprShown.{expr_shown, init_shown, sizes_tree, super_args_tree};
 ghost use Rattle.rf_jtree.specs.ExprTrees as trees;
 ghost use Rattle.rf_jtree.specs.NameShown.{name_shown, base_shown, type_shown};
-ghost use Rattle.rf_jexpr.specs.Made.{IsGrown, boxed_shown, boxed_init_shown, exprs_found, inits_found, size_shown, super_args_found};
+ghost use Rattle.rf_jexpr.specs.Made.{IsGrown, boxed_shown, boxed_init_shown, boxed_args_shown, boxed_braces_shown, exprs_found, inits_found, size_shown, super_args_found};
 ghost use Rattle.rf_jexpr.specs.PartReads.{exprs_of, inits_of};
 
-use crate::found::{Found, deeper};
+use crate::found::{Found, deeper, put};
 use rf_jtree::{Args, Braces, Dims, Expr, Init, Many, Name, Tok, TypeBase, TypeUse};
 use rf_text::{List, Memory};
 use std::alloc::Global;
@@ -52,7 +52,8 @@ pub(crate) fn paren_of(
 ) -> Result<Box<Expr>, Memory>
     ensures { IfOk result (λ found. boxed_shown found ≡ trees.Paren left (boxed_shown value) right) }
 {
-    boxed(alloc, Expr::Paren(left, value, right))
+    let end = put(alloc, right)?;
+    boxed(alloc, Expr::Paren(left, value, end))
 }
 
 pub(crate) fn prefixed_of(alloc: Global, op: Tok, value: Box<Expr>) -> Result<Box<Expr>, Memory>
@@ -70,7 +71,9 @@ pub(crate) fn cast_of(
 ) -> Result<Box<Expr>, Memory>
     ensures { IfOk result (λ found. boxed_shown found ≡ trees.Cast left (type_shown sort) right (boxed_shown value)) }
 {
-    boxed(alloc, Expr::Cast(left, sort, right, value))
+    let to = put(alloc, sort)?;
+    let end = put(alloc, right)?;
+    boxed(alloc, Expr::Cast(left, to, end, value))
 }
 
 pub(crate) fn postfix_of(alloc: Global, value: Box<Expr>, op: Tok) -> Result<Box<Expr>, Memory>
@@ -85,16 +88,19 @@ pub(crate) fn super_of(
     word: Tok,
     dot: Tok,
     id: Tok,
-    args: Option<Args>,
+    args: Option<Box<Args>>,
 ) -> Result<Box<Expr>, Memory>
     ensures { IfOk result (λ found. boxed_shown found ≡ trees.Super word dot id (super_args_tree (super_args_found args))) }
 {
+    let first = put(alloc, word)?;
+    let mark = put(alloc, dot)?;
+    let member = put(alloc, id)?;
     boxed(
         alloc,
         Expr::Super {
-            word,
-            dot,
-            id,
+            word: first,
+            dot: mark,
+            id: member,
             args,
         },
     )
@@ -105,11 +111,12 @@ pub(crate) fn object_of(
     alloc: Global,
     word: Tok,
     class: Name,
-    args: Args,
+    args: Box<Args>,
 ) -> Result<Box<Expr>, Memory>
-    ensures { IfOk result (λ found. boxed_shown found ≡ trees.New word (name_shown class) (args_shown args)) }
+    ensures { IfOk result (λ found. boxed_shown found ≡ trees.New word (name_shown class) (boxed_args_shown args)) }
 {
-    boxed(alloc, Expr::New(word, class, args))
+    let name = put(alloc, class)?;
+    boxed(alloc, Expr::New(word, name, args))
 }
 
 /// A new array of these sizes (JLS 15.10).
@@ -122,11 +129,13 @@ pub(crate) fn array_of(
 ) -> Result<Box<Expr>, Memory>
     ensures { IfOk result (λ found. boxed_shown found ≡ trees.NewArray word (base_shown base) (sizes_tree (map size_shown sizes)) dims) }
 {
+    let first = put(alloc, word)?;
+    let of = put(alloc, base)?;
     boxed(
         alloc,
         Expr::NewArray {
-            word,
-            base,
+            word: first,
+            base: of,
             sizes,
             dims,
         },
@@ -139,51 +148,60 @@ pub(crate) fn filled_of(
     word: Tok,
     base: TypeBase,
     dims: Dims,
-    init: Braces,
+    init: Box<Braces>,
 ) -> Result<Box<Expr>, Memory>
-    ensures { IfOk result (λ found. boxed_shown found ≡ trees.NewInit word (base_shown base) dims (braces_shown init)) }
+    ensures { IfOk result (λ found. boxed_shown found ≡ trees.NewInit word (base_shown base) dims (boxed_braces_shown init)) }
 {
+    let first = put(alloc, word)?;
+    let of = put(alloc, base)?;
     boxed(
         alloc,
         Expr::NewInit {
-            word,
-            base,
+            word: first,
+            base: of,
             dims,
             init,
         },
     )
 }
 
-pub(crate) fn args_of(left: Tok, list: Option<Many<Expr>>, right: Tok) -> Args
-    ensures { args_shown result ≡ trees.Args left (exprs_of (exprs_found list)) right }
+pub(crate) fn args_of(
+    alloc: Global,
+    left: Tok,
+    list: Option<Many<Expr>>,
+    right: Tok,
+) -> Result<Box<Args>, Memory>
+    ensures { IfOk result (λ found. boxed_args_shown found ≡ trees.Args left (exprs_of (exprs_found list)) right) }
 {
-    Args { left, list, right }
+    put(alloc, Args { left, list, right })
 }
 
 pub(crate) fn braces_of(
+    alloc: Global,
     left: Tok,
     items: Option<Many<Init>>,
     comma: Option<Tok>,
     right: Tok,
-) -> Braces
-    ensures { braces_shown result ≡ trees.Braces left (inits_of (inits_found items)) comma right }
+) -> Result<Box<Braces>, Memory>
+    ensures { IfOk result (λ found. boxed_braces_shown found ≡ trees.Braces left (inits_of (inits_found items)) comma right) }
 {
-    Braces {
+    let braces = Braces {
         left,
         items,
         comma,
         right,
-    }
+    };
+    put(alloc, braces)
 }
 
 pub(crate) fn value_of(alloc: Global, value: Box<Expr>) -> Result<Box<Init>, Memory>
     ensures { IfOk result (λ found. boxed_init_shown found ≡ trees.Value (boxed_shown value)) }
 {
-    boxed_init(alloc, Init::Value(Box::into_inner(value)))
+    boxed_init(alloc, Init::Value(value))
 }
 
-pub(crate) fn braced_of(alloc: Global, items: Braces) -> Result<Box<Init>, Memory>
-    ensures { IfOk result (λ found. boxed_init_shown found ≡ trees.Braced (braces_shown items)) }
+pub(crate) fn braced_of(alloc: Global, items: Box<Braces>) -> Result<Box<Init>, Memory>
+    ensures { IfOk result (λ found. boxed_init_shown found ≡ trees.Braced (boxed_braces_shown items)) }
 {
     boxed_init(alloc, Init::Braced(items))
 }

@@ -1,8 +1,9 @@
-ghost use Rattle.std.specs.Prelude.{◌≡◌, max};
+ghost use Rattle.std.specs.Prelude.{◌≡◌, max, IfOk};
 ghost use Rattle.rf_jexpr.specs.Gives.{IsAttempt};
 
 use crate::ParseErr;
 use rf_text::Memory;
+use std::alloc::Global;
 
 /// What was read of the tokens, and the number of the token behind it.
 #[derive(Drop)]
@@ -28,6 +29,13 @@ pub fn attempt<T>(tried: Result<T, ParseErr>) -> Result<Option<T>, Memory>
         Err(ParseErr::NoTree) => Ok(None),
         Err(ParseErr::Memory) => Err(Memory),
     }
+}
+
+/// A value behind a pointer.
+pub fn put<T: Drop>(alloc: Global, item: T) -> Result<Box<T>, Memory>
+    ensures { IfOk result (λ found. found.value ≡ item) }
+{
+    Ok(Box::new(alloc, item)?)
 }
 
 /// The greater of two depths.

@@ -9,7 +9,7 @@ use crate::ParseErr;
 use crate::cursor::{Want, is_at, take};
 use crate::found::{Taken, attempt};
 use rf_jtree::operator_names::{DOT, LEFT_BRACKET, RIGHT_BRACKET};
-use rf_jtree::{Dims, Many, Name, Tok, TypeBase, TypeUse};
+use rf_jtree::{Dims, Dotted, Name, Tok, TypeBase, TypeUse};
 use rf_text::{List, Memory};
 use std::alloc::Global;
 
@@ -49,8 +49,8 @@ pub(crate) fn name(alloc: Global, t: &[Tok], at: usize) -> Result<Taken<Name>, P
 {
     let first = take(alloc, t, at, Want::Ident)?;
     let rest = more_ids(alloc, t, first.end)?;
-    let ids = Many {
-        first: Box::new(alloc, first.item)?,
+    let ids = Dotted {
+        first: first.item,
         rest: rest.item,
     };
     Ok(Taken {

@@ -1,15 +1,14 @@
 ghost use Rattle.std.specs.Prelude.{◌≡◌, IfOk};
-ghost use Rattle.rf_jtree.specs.ExprShown.{args_shown};
 ghost use Rattle.rf_jtree.specs.ExprTrees.{on_depth};
 ghost use Rattle.rf_jtree.specs.ExprTrees as trees;
 ghost use Rattle.rf_jtree.specs.NameShown.{name_shown, type_shown};
-ghost use Rattle.rf_jexpr.specs.Made.{boxed_shown};
+ghost use Rattle.rf_jexpr.specs.Made.{boxed_shown, boxed_args_shown};
 ghost use Rattle.rf_jexpr.specs.PrimaryReads.{called_on};
 ghost use Rattle.rf_jexpr.specs.Tails.{IsJoined, assigned, chosen, operated, suffixed, named_called};
 
 use crate::forms::{boxed, name_of};
-use crate::found::Found;
-use rf_jtree::{Args, Expr, Many, Name, Tok, TypeUse};
+use crate::found::{Found, put};
+use rf_jtree::{Args, Dotted, Expr, Name, Tok, TypeUse};
 use rf_text::Memory;
 use std::alloc::Global;
 
@@ -35,13 +34,13 @@ pub(crate) struct Choice {
 #[derive(Drop)]
 pub(crate) enum Tail {
     Binary(Operation),
-    Instance(Tok, TypeUse),
+    Instance(Tok, Box<TypeUse>),
 }
 
 /// What stands behind a primary expression.
 #[derive(Drop)]
 pub(crate) enum Suffix {
-    Call(Tok, Tok, Args),
+    Call(Tok, Tok, Box<Args>),
     Field(Tok, Tok),
     Item(Tok, Box<Expr>, Tok),
 }
@@ -55,9 +54,11 @@ pub(crate) fn assigned(alloc: Global, left: Box<Expr>, tail: Operation) -> Resul
 pub(crate) fn chosen(alloc: Global, test: Box<Expr>, tail: Choice) -> Result<Box<Expr>, Memory>
     ensures { IfOk result (λ found. boxed_shown found ≡ chosen (boxed_shown test) tail) }
 {
+    let mark = put(alloc, tail.mark)?;
+    let colon = put(alloc, tail.colon)?;
     boxed(
         alloc,
-        Expr::Cond(test, tail.mark, tail.first, tail.colon, tail.other),
+        Expr::Cond(test, mark, tail.first, colon, tail.other),
     )
 }
 
@@ -71,9 +72,9 @@ fn instance_of(
     alloc: Global,
     value: Box<Expr>,
     word: Tok,
-    sort: TypeUse,
+    sort: Box<TypeUse>,
 ) -> Result<Box<Expr>, Memory>
-    ensures { IfOk result (λ found. boxed_shown found ≡ trees.Instance (boxed_shown value) word (type_shown sort)) }
+    ensures { IfOk result (λ found. boxed_shown found ≡ trees.Instance (boxed_shown value) word (type_shown sort.value)) }
 {
     boxed(alloc, Expr::Instance(value, word, sort))
 }
@@ -103,16 +104,23 @@ pub(crate) fn operated(
 }
 
 /// A method called on an expression.
-fn call_on(alloc: Global, on: Box<Expr>, dot: Tok, id: Tok, args: Args) -> Result<Box<Expr>, Memory>
-    ensures { IfOk result (λ found. boxed_shown found ≡ trees.Call (trees.On (boxed_shown on) dot) id (args_shown args)) }
+fn call_on(
+    alloc: Global,
+    on: Box<Expr>,
+    dot: Tok,
+    id: Tok,
+    args: Box<Args>,
+) -> Result<Box<Expr>, Memory>
+    ensures { IfOk result (λ found. boxed_shown found ≡ trees.Call (trees.On (boxed_shown on) dot) id (boxed_args_shown args)) }
 {
-    let on = Some((on, dot));
+    let front = put(alloc, (on, dot))?;
+    let on = Some(front);
     boxed(alloc, Expr::Call { on, id, args })
 }
 
 /// A method called on nothing.
-fn call_alone(alloc: Global, id: Tok, args: Args) -> Result<Box<Expr>, Memory>
-    ensures { IfOk result (λ found. boxed_shown found ≡ trees.Call trees.NoOn id (args_shown args)) }
+fn call_alone(alloc: Global, id: Tok, args: Box<Args>) -> Result<Box<Expr>, Memory>
+    ensures { IfOk result (λ found. boxed_shown found ≡ trees.Call trees.NoOn id (boxed_args_shown args)) }
 {
     boxed(alloc, Expr::Call { on: None, id, args })
 }
@@ -120,7 +128,8 @@ fn call_alone(alloc: Global, id: Tok, args: Args) -> Result<Box<Expr>, Memory>
 fn field_of(alloc: Global, on: Box<Expr>, dot: Tok, id: Tok) -> Result<Box<Expr>, Memory>
     ensures { IfOk result (λ found. boxed_shown found ≡ trees.Field (boxed_shown on) dot id) }
 {
-    boxed(alloc, Expr::Field(on, dot, id))
+    let mark = put(alloc, dot)?;
+    boxed(alloc, Expr::Field(on, mark, id))
 }
 
 /// An item of an array.
@@ -133,7 +142,8 @@ fn item_of(
 ) -> Result<Box<Expr>, Memory>
     ensures { IfOk result (λ found. boxed_shown found ≡ trees.Index (boxed_shown on) left (boxed_shown place) right) }
 {
-    boxed(alloc, Expr::Index(on, left, place, right))
+    let end = put(alloc, right)?;
+    boxed(alloc, Expr::Index(on, left, place, end))
 }
 
 fn suffix_joined(alloc: Global, on: Box<Expr>, suffix: Suffix) -> Result<Box<Expr>, Memory>
@@ -174,14 +184,18 @@ pub(crate) fn depth_called_on(name: &Name) -> usize
 
 /// A call whose method is the last identifier of the name.
 #[tactic(auto, using(crate::proofs::CalledLemmas::called))]
-pub(crate) fn named_called(alloc: Global, name: Name, args: Args) -> Result<Box<Expr>, Memory>
+pub(crate) fn named_called(
+    alloc: Global,
+    name: Name,
+    args: Box<Args>,
+) -> Result<Box<Expr>, Memory>
     ensures { IfOk result (λ found. boxed_shown found ≡ named_called (name_shown name) args) }
 {
-    let Many { first, mut rest } = name.ids;
+    let Dotted { first, mut rest } = name.ids;
     match rest.pop() {
-        None => call_alone(alloc, Box::into_inner(first), args),
+        None => call_alone(alloc, first, args),
         Some((dot, id)) => {
-            let ids = Many { first, rest };
+            let ids = Dotted { first, rest };
             let on = name_of(alloc, Name { ids })?;
             call_on(alloc, on, dot, id, args)
         }

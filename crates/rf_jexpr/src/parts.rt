@@ -1,11 +1,10 @@
 ghost use Rattle.std.specs.Prelude.{◌≡◌, ◌≤◌, ◌<◌, ◌+◌, drop, length, map, IfOk};
 ghost use Rattle.rf_jtree.specs.declared.operator_names.TheConstants.{COMMA};
-ghost use Rattle.rf_jtree.specs.ExprShown.{args_shown, braces_shown};
 ghost use Rattle.rf_jtree.specs.ExprTrees.{expr_depth, args_depth, braces_depth};
 ghost use Rattle.rf_jtree.specs.NameTrees.{list_depth};
 ghost use Rattle.rf_jexpr.specs.Descent.{parsers};
 ghost use Rattle.rf_jexpr.specs.Gives.{GivesTree, IsFound, IsTaken};
-ghost use Rattle.rf_jexpr.specs.Made.{boxed_shown, bracketed_shown, item_shown, item_depth, init_item_shown, init_item_depth, size_shown, size_depth, exprs_found, found_depth, inits_found, inits_found_depth};
+ghost use Rattle.rf_jexpr.specs.Made.{boxed_shown, boxed_args_shown, boxed_braces_shown, bracketed_shown, item_shown, item_depth, init_item_shown, init_item_depth, size_shown, size_depth, exprs_found, found_depth, inits_found, inits_found_depth};
 ghost use Rattle.rf_jexpr.specs.PartReads.{paren, args, sized, braces};
 ghost use Rattle.rf_jexpr.specs.Reads.{is_op, token, many, behind, separated, optional};
 
@@ -115,14 +114,20 @@ pub fn exprs(
 /// Arguments in parentheses (JLS 15.12).
 #[cycle(expr)]
 #[tactic(auto, unfolding(crate::specs::PartReads::args, crate::specs::Reads::and_then))]
-pub(crate) fn args(alloc: Global, t: &[Tok], at: usize, room: u32) -> Result<Found<Args>, ParseErr>
-    ensures { GivesTree args_shown args_depth room t.now at result (args (parsers room) (drop at t.now)) }
+pub(crate) fn args(
+    alloc: Global,
+    t: &[Tok],
+    at: usize,
+    room: u32,
+) -> Result<Found<Box<Args>>, ParseErr>
+    ensures { GivesTree boxed_args_shown args_depth room t.now at result (args (parsers room) (drop at t.now)) }
 {
     let left = take(alloc, t, at, Want::Op(LEFT_PAREN))?;
     let list = exprs(alloc, t, left.end, room)?;
     let right = take(alloc, t, list.end, Want::Op(RIGHT_PAREN))?;
+    let tree = args_of(alloc, left.item, list.tree, right.item)?;
     Ok(Found {
-        tree: args_of(left.item, list.tree, right.item),
+        tree,
         end: right.end,
         depth: list.depth,
     })
@@ -285,15 +290,16 @@ pub(crate) fn braces(
     t: &[Tok],
     at: usize,
     room: u32,
-) -> Result<Found<Braces>, ParseErr>
-    ensures { GivesTree braces_shown braces_depth room t.now at result (braces (parsers room) (drop at t.now)) }
+) -> Result<Found<Box<Braces>>, ParseErr>
+    ensures { GivesTree boxed_braces_shown braces_depth room t.now at result (braces (parsers room) (drop at t.now)) }
 {
     let left = take(alloc, t, at, Want::Op(LEFT_BRACE))?;
     let items = inits(alloc, t, left.end, room)?;
     let comma = comma(alloc, t, items.end)?;
     let right = take(alloc, t, comma.end, Want::Op(RIGHT_BRACE))?;
+    let tree = braces_of(alloc, left.item, items.tree, comma.item, right.item)?;
     Ok(Found {
-        tree: braces_of(left.item, items.tree, comma.item, right.item),
+        tree,
         end: right.end,
         depth: items.depth,
     })

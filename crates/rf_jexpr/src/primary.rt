@@ -55,7 +55,7 @@ fn this_word(alloc: Global, t: &[Tok], at: usize) -> Result<Found<Box<Expr>>, Pa
 /// What stands behind `super.x`: the arguments of a call, where they fit.
 #[cycle(expr)]
 #[tactic(auto, unfolding(crate::specs::Reads::optional, crate::specs::Reads::and_then, crate::specs::Reads::or_else))]
-fn super_args(alloc: Global, t: &[Tok], at: usize, room: u32) -> Result<Found<Option<Args>>, Memory>
+fn super_args(alloc: Global, t: &[Tok], at: usize, room: u32) -> Result<Found<Option<Box<Args>>>, Memory>
     requires { at ≤ length t.now }
     ensures { IfOk result (IsFound super_args_found super_args_found_depth room t.now at (optional (args (parsers room)) (drop at t.now))) }
 {
@@ -105,7 +105,7 @@ fn named_call(
     at: usize,
     room: u32,
     name: &Name,
-) -> Result<Found<Args>, ParseErr>
+) -> Result<Found<Box<Args>>, ParseErr>
     ensures { GivesTree (named_called (name_shown name.now)) expr_depth (room + 1) t.now at result (named_call room (parsers room) (name_shown name.now) (drop at t.now)) }
 {
     let on_depth = depth_called_on(name);

@@ -145,16 +145,14 @@ pub fn expr_first(expr: &Expr) -> &Tok
         | Expr::Cast(tok, _, _, _)
         | Expr::Lit(tok)
         | Expr::This(tok)
-        | Expr::Paren(tok, _, _) => tok,
+        | Expr::Paren(tok, _, _)
+        | Expr::New(tok, _, _) => tok,
         Expr::Name(name) => &name.ids.first,
         Expr::Call { on, id, .. } => match on {
             Some(on) => expr_first(&on.0),
             None => id,
         },
-        Expr::Super { word, .. }
-        | Expr::New(word, _, _)
-        | Expr::NewArray { word, .. }
-        | Expr::NewInit { word, .. } => word,
+        Expr::Super { word, .. } | Expr::NewArray { word, .. } | Expr::NewInit { word, .. } => word,
     }
 }
 

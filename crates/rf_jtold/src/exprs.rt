@@ -146,11 +146,11 @@ fn tell_new(text: &mut TreeText, expr: &Expr) -> Result<(), Memory> {
 }
 
 #[cycle(tell)]
-fn tell_on(text: &mut TreeText, on: &Option<(Box<Expr>, Tok)>) -> Result<(), Memory> {
+fn tell_on(text: &mut TreeText, on: &Option<Box<(Box<Expr>, Tok)>>) -> Result<(), Memory> {
     match on {
-        Some((value, dot)) => {
-            tell(text, value)?;
-            text.tok(dot)
+        Some(on) => {
+            tell(text, &on.0)?;
+            text.tok(&on.1)
         }
         None => Ok(()),
     }

@@ -38,7 +38,7 @@ pub expr_shown-Assign : (left : Box Expr Global) (op : Tok) (value : Box Expr Gl
 unfolding expr_shown
 expr_shown-Assign left op value = ap expr_shown (sym (e.rolls-Assign left op value)) ∙ fold-roll-Expr ExprTree InitTree ArgsTree BracesTree expr_layer init_layer args_layer braces_layer (Expr-F.Assign left op value)
 
-pub expr_shown-Cond : (test : Box Expr Global) (mark : Tok) (first : Box Expr Global) (colon : Tok) (other : Box Expr Global) → expr_shown (e.Cond test mark first colon other) ≡ t.Cond (expr_shown test.value) mark (expr_shown first.value) colon (expr_shown other.value)
+pub expr_shown-Cond : (test : Box Expr Global) (mark : Box Tok Global) (first : Box Expr Global) (colon : Box Tok Global) (other : Box Expr Global) → expr_shown (e.Cond test mark first colon other) ≡ t.Cond (expr_shown test.value) mark.value (expr_shown first.value) colon.value (expr_shown other.value)
 unfolding expr_shown
 expr_shown-Cond test mark first colon other = ap expr_shown (sym (e.rolls-Cond test mark first colon other)) ∙ fold-roll-Expr ExprTree InitTree ArgsTree BracesTree expr_layer init_layer args_layer braces_layer (Expr-F.Cond test mark first colon other)
 
@@ -46,7 +46,7 @@ pub expr_shown-Binary : (left : Box Expr Global) (op : Tok) (right : Box Expr Gl
 unfolding expr_shown
 expr_shown-Binary left op right = ap expr_shown (sym (e.rolls-Binary left op right)) ∙ fold-roll-Expr ExprTree InitTree ArgsTree BracesTree expr_layer init_layer args_layer braces_layer (Expr-F.Binary left op right)
 
-pub expr_shown-Instance : (value : Box Expr Global) (word : Tok) (sort : TypeUse) → expr_shown (e.Instance value word sort) ≡ t.Instance (expr_shown value.value) word (type_shown sort)
+pub expr_shown-Instance : (value : Box Expr Global) (word : Tok) (sort : Box TypeUse Global) → expr_shown (e.Instance value word sort) ≡ t.Instance (expr_shown value.value) word (type_shown sort.value)
 unfolding expr_shown
 expr_shown-Instance value word sort = ap expr_shown (sym (e.rolls-Instance value word sort)) ∙ fold-roll-Expr ExprTree InitTree ArgsTree BracesTree expr_layer init_layer args_layer braces_layer (Expr-F.Instance value word sort)
 
@@ -54,7 +54,7 @@ pub expr_shown-Unary : (op : Tok) (value : Box Expr Global) → expr_shown (e.Un
 unfolding expr_shown
 expr_shown-Unary op value = ap expr_shown (sym (e.rolls-Unary op value)) ∙ fold-roll-Expr ExprTree InitTree ArgsTree BracesTree expr_layer init_layer args_layer braces_layer (Expr-F.Unary op value)
 
-pub expr_shown-Cast : (left : Tok) (sort : TypeUse) (right : Tok) (value : Box Expr Global) → expr_shown (e.Cast left sort right value) ≡ t.Cast left (type_shown sort) right (expr_shown value.value)
+pub expr_shown-Cast : (left : Tok) (sort : Box TypeUse Global) (right : Box Tok Global) (value : Box Expr Global) → expr_shown (e.Cast left sort right value) ≡ t.Cast left (type_shown sort.value) right.value (expr_shown value.value)
 unfolding expr_shown
 expr_shown-Cast left sort right value = ap expr_shown (sym (e.rolls-Cast left sort right value)) ∙ fold-roll-Expr ExprTree InitTree ArgsTree BracesTree expr_layer init_layer args_layer braces_layer (Expr-F.Cast left sort right value)
 
@@ -70,7 +70,7 @@ pub expr_shown-This : (tok : Tok) → expr_shown (e.This tok) ≡ t.This tok
 unfolding expr_shown
 expr_shown-This tok = ap expr_shown (sym (e.rolls-This tok)) ∙ fold-roll-Expr ExprTree InitTree ArgsTree BracesTree expr_layer init_layer args_layer braces_layer (Expr-F.This tok)
 
-pub expr_shown-Paren : (left : Tok) (value : Box Expr Global) (right : Tok) → expr_shown (e.Paren left value right) ≡ t.Paren left (expr_shown value.value) right
+pub expr_shown-Paren : (left : Tok) (value : Box Expr Global) (right : Box Tok Global) → expr_shown (e.Paren left value right) ≡ t.Paren left (expr_shown value.value) right.value
 unfolding expr_shown
 expr_shown-Paren left value right = ap expr_shown (sym (e.rolls-Paren left value right)) ∙ fold-roll-Expr ExprTree InitTree ArgsTree BracesTree expr_layer init_layer args_layer braces_layer (Expr-F.Paren left value right)
 
@@ -78,42 +78,42 @@ pub expr_shown-Name : (name : Name) → expr_shown (e.Name name) ≡ t.Name (nam
 unfolding expr_shown
 expr_shown-Name name = ap expr_shown (sym (e.rolls-Name name)) ∙ fold-roll-Expr ExprTree InitTree ArgsTree BracesTree expr_layer init_layer args_layer braces_layer (Expr-F.Name name)
 
-pub expr_shown-Call : (on : Option (Box Expr Global × Tok)) (id : Tok) (args : Args) → expr_shown (e.Call on id args) ≡ t.Call (on_shown on) id (args_shown args)
+pub expr_shown-Call : (on : Option (Box (Box Expr Global × Tok) Global)) (id : Tok) (args : Box Args Global) → expr_shown (e.Call on id args) ≡ t.Call (on_shown on) id (args_shown args.value)
 unfolding expr_shown args_shown
 expr_shown-Call None id args = ap expr_shown (sym (e.rolls-Call None id args)) ∙ fold-roll-Expr ExprTree InitTree ArgsTree BracesTree expr_layer init_layer args_layer braces_layer (Expr-F.Call None id args)
 expr_shown-Call (Some on) id args = ap expr_shown (sym (e.rolls-Call (Some on) id args)) ∙ fold-roll-Expr ExprTree InitTree ArgsTree BracesTree expr_layer init_layer args_layer braces_layer (Expr-F.Call (Some on) id args)
 
-pub expr_shown-Field : (value : Box Expr Global) (dot id : Tok) → expr_shown (e.Field value dot id) ≡ t.Field (expr_shown value.value) dot id
+pub expr_shown-Field : (value : Box Expr Global) (dot : Box Tok Global) (id : Tok) → expr_shown (e.Field value dot id) ≡ t.Field (expr_shown value.value) dot.value id
 unfolding expr_shown
 expr_shown-Field value dot id = ap expr_shown (sym (e.rolls-Field value dot id)) ∙ fold-roll-Expr ExprTree InitTree ArgsTree BracesTree expr_layer init_layer args_layer braces_layer (Expr-F.Field value dot id)
 
-pub expr_shown-Super : (word dot id : Tok) (args : Option Args) → expr_shown (e.Super word dot id args) ≡ t.Super word dot id (super_args_shown args)
+pub expr_shown-Super : (word dot id : Box Tok Global) (args : Option (Box Args Global)) → expr_shown (e.Super word dot id args) ≡ t.Super word.value dot.value id.value (super_args_shown args)
 unfolding expr_shown args_shown
 expr_shown-Super word dot id None = ap expr_shown (sym (e.rolls-Super word dot id None)) ∙ fold-roll-Expr ExprTree InitTree ArgsTree BracesTree expr_layer init_layer args_layer braces_layer (Expr-F.Super word dot id None)
 expr_shown-Super word dot id (Some args) = ap expr_shown (sym (e.rolls-Super word dot id (Some args))) ∙ fold-roll-Expr ExprTree InitTree ArgsTree BracesTree expr_layer init_layer args_layer braces_layer (Expr-F.Super word dot id (Some args))
 
-pub expr_shown-New : (word : Tok) (name : Name) (args : Args) → expr_shown (e.New word name args) ≡ t.New word (name_shown name) (args_shown args)
+pub expr_shown-New : (word : Tok) (name : Box Name Global) (args : Box Args Global) → expr_shown (e.New word name args) ≡ t.New word (name_shown name.value) (args_shown args.value)
 unfolding expr_shown args_shown
 expr_shown-New word name args = ap expr_shown (sym (e.rolls-New word name args)) ∙ fold-roll-Expr ExprTree InitTree ArgsTree BracesTree expr_layer init_layer args_layer braces_layer (Expr-F.New word name args)
 
-pub expr_shown-Index : (value : Box Expr Global) (left : Tok) (index : Box Expr Global) (right : Tok) → expr_shown (e.Index value left index right) ≡ t.Index (expr_shown value.value) left (expr_shown index.value) right
+pub expr_shown-Index : (value : Box Expr Global) (left : Tok) (index : Box Expr Global) (right : Box Tok Global) → expr_shown (e.Index value left index right) ≡ t.Index (expr_shown value.value) left (expr_shown index.value) right.value
 unfolding expr_shown
 expr_shown-Index value left index right = ap expr_shown (sym (e.rolls-Index value left index right)) ∙ fold-roll-Expr ExprTree InitTree ArgsTree BracesTree expr_layer init_layer args_layer braces_layer (Expr-F.Index value left index right)
 
-pub expr_shown-NewArray : (word : Tok) (base : TypeBase) (sizes : List (Tok × Expr × Tok)) (dims : Dims) → expr_shown (e.NewArray word base sizes dims) ≡ t.NewArray word (base_shown base) (sizes_shown sizes) dims
+pub expr_shown-NewArray : (word : Box Tok Global) (base : Box TypeBase Global) (sizes : List (Tok × Expr × Tok)) (dims : Dims) → expr_shown (e.NewArray word base sizes dims) ≡ t.NewArray word.value (base_shown base.value) (sizes_shown sizes) dims
 unfolding expr_shown
-expr_shown-NewArray word base sizes dims = ap expr_shown (sym (e.rolls-NewArray word base sizes dims)) ∙ fold-roll-Expr ExprTree InitTree ArgsTree BracesTree expr_layer init_layer args_layer braces_layer (Expr-F.NewArray word base sizes dims) ∙ ap (λ shown. t.NewArray word (base_shown base) shown dims) (sizes_shown-map sizes)
+expr_shown-NewArray word base sizes dims = ap expr_shown (sym (e.rolls-NewArray word base sizes dims)) ∙ fold-roll-Expr ExprTree InitTree ArgsTree BracesTree expr_layer init_layer args_layer braces_layer (Expr-F.NewArray word base sizes dims) ∙ ap (λ shown. t.NewArray word.value (base_shown base.value) shown dims) (sizes_shown-map sizes)
 
-pub expr_shown-NewInit : (word : Tok) (base : TypeBase) (dims : Dims) (init : Braces) → expr_shown (e.NewInit word base dims init) ≡ t.NewInit word (base_shown base) dims (braces_shown init)
+pub expr_shown-NewInit : (word : Box Tok Global) (base : Box TypeBase Global) (dims : Dims) (init : Box Braces Global) → expr_shown (e.NewInit word base dims init) ≡ t.NewInit word.value (base_shown base.value) dims (braces_shown init.value)
 unfolding expr_shown braces_shown
 expr_shown-NewInit word base dims init = ap expr_shown (sym (e.rolls-NewInit word base dims init)) ∙ fold-roll-Expr ExprTree InitTree ArgsTree BracesTree expr_layer init_layer args_layer braces_layer (Expr-F.NewInit word base dims init)
 
 -- what an item begins with
-pub init_shown-Value : (value : Expr) → init_shown (i.Value value) ≡ t.Value (expr_shown value)
+pub init_shown-Value : (value : Box Expr Global) → init_shown (i.Value value) ≡ t.Value (expr_shown value.value)
 unfolding expr_shown init_shown
 init_shown-Value value = ap init_shown (sym (i.rolls-Value value)) ∙ fold-roll-Init ExprTree InitTree ArgsTree BracesTree expr_layer init_layer args_layer braces_layer (Init-F.Value value)
 
-pub init_shown-Braced : (braces : Braces) → init_shown (i.Braced braces) ≡ t.Braced (braces_shown braces)
+pub init_shown-Braced : (braces : Box Braces Global) → init_shown (i.Braced braces) ≡ t.Braced (braces_shown braces.value)
 unfolding init_shown braces_shown
 init_shown-Braced braces = ap init_shown (sym (i.rolls-Braced braces)) ∙ fold-roll-Init ExprTree InitTree ArgsTree BracesTree expr_layer init_layer args_layer braces_layer (Init-F.Braced braces)
 

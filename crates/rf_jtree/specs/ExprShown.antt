@@ -14,9 +14,13 @@ use Rattle.rf_jtree.specs.ExprTrees as t
 use Rattle.rf_jtree.specs.NameShown.{name_shown, base_shown, type_shown}
 
 -- lists, and parts that may be left out, of trees
-abbrev pub on_tree : Option (Box ExprTree Global × Tok) → OnTree
+abbrev pub on_tree : Option (Box (Box ExprTree Global × Tok) Global) → OnTree
 on_tree None = t.NoOn
-on_tree (Some on) = t.On on.0.value on.1
+on_tree (Some on) = t.On on.value.0.value on.value.1
+
+abbrev pub boxed_args_tree : Option (Box ArgsTree Global) → SuperArgsTree
+boxed_args_tree None = t.NoArgs
+boxed_args_tree (Some args) = t.SuperArgs args.value
 
 abbrev pub super_args_tree : Option ArgsTree → SuperArgsTree
 super_args_tree None = t.NoArgs
@@ -45,27 +49,27 @@ inits_tree (Some many) = t.Inits many.first.value (more_inits_tree many.rest)
 -- the layers
 abbrev pub expr_layer : Expr-F ExprTree InitTree ArgsTree BracesTree → ExprTree
 expr_layer (Expr-F.Assign left op value) = t.Assign left.value op value.value
-expr_layer (Expr-F.Cond test mark first colon other) = t.Cond test.value mark first.value colon other.value
+expr_layer (Expr-F.Cond test mark first colon other) = t.Cond test.value mark.value first.value colon.value other.value
 expr_layer (Expr-F.Binary left op right) = t.Binary left.value op right.value
-expr_layer (Expr-F.Instance value word sort) = t.Instance value.value word (type_shown sort)
+expr_layer (Expr-F.Instance value word sort) = t.Instance value.value word (type_shown sort.value)
 expr_layer (Expr-F.Unary op value) = t.Unary op value.value
-expr_layer (Expr-F.Cast left sort right value) = t.Cast left (type_shown sort) right value.value
+expr_layer (Expr-F.Cast left sort right value) = t.Cast left (type_shown sort.value) right.value value.value
 expr_layer (Expr-F.Postfix value op) = t.Postfix value.value op
 expr_layer (Expr-F.Lit tok) = t.Lit tok
 expr_layer (Expr-F.This tok) = t.This tok
-expr_layer (Expr-F.Paren left value right) = t.Paren left value.value right
+expr_layer (Expr-F.Paren left value right) = t.Paren left value.value right.value
 expr_layer (Expr-F.Name name) = t.Name (name_shown name)
-expr_layer (Expr-F.Call on id args) = t.Call (on_tree on) id args
-expr_layer (Expr-F.Field value dot id) = t.Field value.value dot id
-expr_layer (Expr-F.Super word dot id args) = t.Super word dot id (super_args_tree args)
-expr_layer (Expr-F.New word name args) = t.New word (name_shown name) args
-expr_layer (Expr-F.Index value left index right) = t.Index value.value left index.value right
-expr_layer (Expr-F.NewArray word base sizes dims) = t.NewArray word (base_shown base) (sizes_tree sizes) dims
-expr_layer (Expr-F.NewInit word base dims init) = t.NewInit word (base_shown base) dims init
+expr_layer (Expr-F.Call on id args) = t.Call (on_tree on) id args.value
+expr_layer (Expr-F.Field value dot id) = t.Field value.value dot.value id
+expr_layer (Expr-F.Super word dot id args) = t.Super word.value dot.value id.value (boxed_args_tree args)
+expr_layer (Expr-F.New word name args) = t.New word (name_shown name.value) args.value
+expr_layer (Expr-F.Index value left index right) = t.Index value.value left index.value right.value
+expr_layer (Expr-F.NewArray word base sizes dims) = t.NewArray word.value (base_shown base.value) (sizes_tree sizes) dims
+expr_layer (Expr-F.NewInit word base dims init) = t.NewInit word.value (base_shown base.value) dims init.value
 
 abbrev pub init_layer : Init-F ExprTree InitTree ArgsTree BracesTree → InitTree
-init_layer (Init-F.Value value) = t.Value value
-init_layer (Init-F.Braced braces) = t.Braced braces
+init_layer (Init-F.Value value) = t.Value value.value
+init_layer (Init-F.Braced braces) = t.Braced braces.value
 
 abbrev pub args_layer : Args-F ExprTree InitTree ArgsTree BracesTree → ArgsTree
 args_layer args = t.Args args.left (exprs_tree args.list) args.right
@@ -87,13 +91,13 @@ unfoldable pub braces_shown : Braces → BracesTree
 braces_shown = fold-Braces ExprTree InitTree ArgsTree BracesTree expr_layer init_layer args_layer braces_layer
 
 -- the parts that lead back to expressions
-abbrev pub on_shown : Option (Box Expr Global × Tok) → OnTree
+abbrev pub on_shown : Option (Box (Box Expr Global × Tok) Global) → OnTree
 on_shown None = t.NoOn
-on_shown (Some on) = t.On (expr_shown on.0.value) on.1
+on_shown (Some on) = t.On (expr_shown on.value.0.value) on.value.1
 
-abbrev pub super_args_shown : Option Args → SuperArgsTree
+abbrev pub super_args_shown : Option (Box Args Global) → SuperArgsTree
 super_args_shown None = t.NoArgs
-super_args_shown (Some args) = t.SuperArgs (args_shown args)
+super_args_shown (Some args) = t.SuperArgs (args_shown args.value)
 
 abbrev pub more_exprs_shown : List (Tok × Expr) → MoreExprsTree
 more_exprs_shown [] = t.NoMoreExprs

@@ -1,5 +1,6 @@
 -- What names, types and modifiers show as trees: themselves without pointers.
 use Rattle.std.specs.Prelude.{List, map, option_map}
+use Rattle.rf_jtree.specs.declared.names.Dotted.{Dotted}
 use Rattle.rf_jtree.specs.declared.names.Many.{Many}
 use Rattle.rf_jtree.specs.declared.names.Mod.{Mod}
 use Rattle.rf_jtree.specs.declared.names.Mod.TheVariants as m
@@ -19,8 +20,11 @@ many_shown shown many = record { first = shown many.first.value; rest = map (λ 
 abbrev pub toks_shown : Many Tok → ManyTree Tok
 toks_shown many = record { first = many.first.value; rest = many.rest }
 
+abbrev pub ids_shown : Dotted → ManyTree Tok
+ids_shown ids = record { first = ids.first; rest = ids.rest }
+
 abbrev pub name_shown : Name → NameTree
-name_shown name = record { ids = toks_shown name.ids }
+name_shown name = record { ids = ids_shown name.ids }
 
 abbrev pub base_shown : TypeBase → TypeBaseTree
 base_shown (b.Prim tok) = t.Prim tok

@@ -1,17 +1,24 @@
 use crate::Tok;
 use rf_text::List;
 
-/// One item or more, with a token between two of them: `x {"," x}`, or identifiers with dots.
+/// One item or more, with a token between two of them: `x {"," x}`.
 #[derive(Drop)]
 pub struct Many<T> {
     pub first: Box<T>,
     pub rest: List<(Tok, T)>,
 }
 
+/// An identifier, and others with a dot before each.
+#[derive(Drop)]
+pub struct Dotted {
+    pub first: Tok,
+    pub rest: List<(Tok, Tok)>,
+}
+
 /// A dotted name (JLS 6.2).
 #[derive(Drop)]
 pub struct Name {
-    pub ids: Many<Tok>,
+    pub ids: Dotted,
 }
 
 /// Pairs of brackets: `[` and `]`.

@@ -3,4 +3,4 @@ use Rattle.rf_jexpr.proofs.FormLemmas.{super_args-shown}
 use Rattle.rf_jexpr.proofs.forms.super_of.Goals as goal
 
 pub returns : goal.returns
-returns c = rw super_args-shown (rw expr_shown-Super at c.boxed.ensures)
+returns c = rw super_args-shown (rw (expr_shown-Super, c.in_ok-first.ensures, c.in_ok-mark.ensures, c.in_ok-member.ensures) at c.boxed.ensures)
