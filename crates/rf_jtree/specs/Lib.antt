@@ -2,7 +2,7 @@ pub mod DeclFits
 pub mod DeclShown
 pub mod DeclTrees
 pub mod Digits
-pub mod Dotted
+pub mod NameText
 pub mod Escapes
 pub mod ExprFits
 pub mod ExprShown

@@ -2,11 +2,11 @@
 #![tactic(auto)]
 
 mod decls;
-mod dotted;
 mod exprs;
 mod identifiers;
 pub mod keyword_names;
 pub mod levels;
+mod name_text;
 mod names;
 pub mod operator_names;
 mod operators;

@@ -1,6 +1,6 @@
 //! Copies of tokens, the spans of their texts, and the text of a dotted name.
 
-use rf_jtree::{Many, Name, Tok, TokKind, Toks, operator, spans};
+use rf_jtree::{Dotted, Name, Tok, TokKind, Toks, operator, spans};
 use rf_text::{Bytes, List, Memory, Span};
 use std::alloc::Global;
 use std::test::Fail;
@@ -40,11 +40,11 @@ fn a_span_begins_behind_the_lead(rt: HostRuntime) -> Result<(), Fail> {
 #[test]
 fn a_dotted_name_has_its_points_and_no_trivia(rt: HostRuntime) -> Result<(), Fail> {
     let alloc = rt.alloc();
-    let first = Box::new(alloc, tok(alloc, b" ", b"java")?)?;
+    let first = tok(alloc, b" ", b"java")?;
     let mut rest = List::new(alloc);
     rest.push((tok(alloc, b"", b".")?, tok(alloc, b" ", b"util")?))?;
     rest.push((tok(alloc, b" ", b".")?, tok(alloc, b"", b"List")?))?;
-    let ids = Many { first, rest };
+    let ids = Dotted { first, rest };
     let name = Name { ids };
     let text = name.text(alloc)?;
     assert_eq!(rt; text.as_slice(), b"java.util.List".as_slice());

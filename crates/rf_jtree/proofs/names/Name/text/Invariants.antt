@@ -1,5 +1,5 @@
 use Rattle.std.proofs.Common.{◌≡◌, ◌++◌, drop}
-use Rattle.rf_jtree.specs.Dotted.{name_text}
+use Rattle.rf_jtree.specs.NameText.{name_text}
 use Rattle.rf_jtree.proofs.DottedLemmas.{behind_points}
 use Rattle.rf_jtree.proofs.names.Name.text.Given as goal
 

@@ -1,5 +1,5 @@
 ghost use Rattle.std.specs.Prelude.{◌≡◌, IfOk};
-ghost use Rattle.rf_jtree.specs.Dotted.{name_text};
+ghost use Rattle.rf_jtree.specs.NameText.{name_text};
 
 use crate::Name;
 use rf_text::{Bytes, Memory};
