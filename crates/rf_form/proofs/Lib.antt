@@ -1,0 +1,13 @@
+pub mod Shows
+pub mod Firsts
+pub mod FamilyLemmas
+pub mod Weights
+pub mod Below
+pub mod Closings
+pub mod Needs
+pub mod Decisions
+pub mod FormulaLaws
+pub mod Counts
+pub mod AtomLemmas
+pub mod ManyLemmas
+pub mod Mentioned

@@ -1,0 +1,11 @@
+pub mod Formulas
+pub mod Shown
+pub mod Families
+pub mod Truths
+pub mod Sums
+pub mod Problems
+pub mod Need
+pub mod Constraints
+pub mod Alive
+pub mod Atoms
+pub mod Mentions
