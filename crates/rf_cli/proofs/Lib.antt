@@ -1,3 +1,4 @@
-pub mod JavaPathLemmas
+pub mod Headline
+pub mod JavaFileLemmas
 pub mod ReadLemmas
 pub mod WholeRunLemmas

@@ -1,7 +1,7 @@
 pub mod Acting
 pub mod Command
-pub mod JavaPath
 pub mod Put
 pub mod Reads
+pub mod RunEnd
 pub mod Status
 pub mod WholeRun

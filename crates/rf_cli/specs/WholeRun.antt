@@ -1,7 +1,7 @@
 -- What a whole run does, status by status, over the files that the world tells and the bytes that the sink tells.
 use Rattle.std.specs.Prelude.{◌≡◌, ℕ, List, [], ◌⊎◌, Option, Some, IsSome, take}
 use Rattle.rf_world.specs.Fault.{Rose}
-use Rattle.rf_world.specs.World.{File, content, with_file}
+use Rattle.rf_world.specs.World.{Files, with_file}
 use Rattle.rf_engine.specs.declared.first_form.FirstPath.{FirstPath}
 use Rattle.rf_engine.specs.declared.first_form.FirstPath.TheVariants.{Changed, Refused, NotYet}
 use Rattle.rf_engine.specs.FirstForm.{Form, answer_of}
@@ -16,20 +16,20 @@ abbrev pub AreBadWords : List (List ℕ) → Type 0
 AreBadWords words = (command : Apply) → IsApply words command → ⊥
 
 -- the words are a command, and the files do not hold the first form for it
-pub record HasNoForm (words : List (List ℕ)) (files : List File) : Type 0 where
+pub record HasNoForm (words : List (List ℕ)) (files : Files) : Type 0 where
   pub command : Apply
   pub is_apply : IsApply words command
   pub none : (path : List ℕ) (form : Form) → HoldsForm command files path form → ⊥
 
 -- the words are a command, the files hold the first form for it, and this is its answer
-pub record HasAnswer (words : List (List ℕ)) (files : List File) (command : Apply) (path : List ℕ) (answer : FirstPath) : Type 0 where
+pub record HasAnswer (words : List (List ℕ)) (files : Files) (command : Apply) (path : List ℕ) (answer : FirstPath) : Type 0 where
   pub is_apply : IsApply words command
   pub form : Form
   pub holds : HoldsForm command files path form
   pub answer_is : answer ≡ answer_of form
 
 -- status 0: the changed file stands under OUT, every other file as before, and the report was put
-pub record IsChanged (words : List (List ℕ)) (before : List File) (after : Option (List File)) (taken put : Option (List ℕ)) : Type 0 where
+pub record IsChanged (words : List (List ℕ)) (before : Files) (after : Option Files) (taken put : Option (List ℕ)) : Type 0 where
   pub command : Apply
   pub path : List ℕ
   pub bytes : List ℕ
@@ -39,7 +39,7 @@ pub record IsChanged (words : List (List ℕ)) (before : List File) (after : Opt
   pub line : Puts report taken put
 
 -- status 1: the line that names both fields was put
-pub record IsRefused (words : List (List ℕ)) (before : List File) (taken put : Option (List ℕ)) : Type 0 where
+pub record IsRefused (words : List (List ℕ)) (before : Files) (taken put : Option (List ℕ)) : Type 0 where
   pub command : Apply
   pub path : List ℕ
   pub report : List ℕ
@@ -61,13 +61,13 @@ status_of (Refused report) = status.Refused
 status_of NotYet = status.NotYet
 
 -- bad words, a form and no form each have their one status, which yields to a failed call and to want of memory alone
-pub record IsExact (words : List (List ℕ)) (files : List File) (result : Status) : Type 0 where
+pub record IsExact (words : List (List ℕ)) (files : Files) (result : Status) : Type 0 where
   pub bad_words : AreBadWords words → (result ≡ status.BadWords) ⊎ IsFault result
   pub form : (command : Apply) (path : List ℕ) (form : Form) → IsApply words command → HoldsForm command files path form → (result ≡ status_of (answer_of form)) ⊎ IsFault result
   pub no_form : HasNoForm words files → (result ≡ status.NotYet) ⊎ IsFault result
 
 -- the changed file was written under OUT, up to this many of its bytes, and every other file is as before
-pub record IsWritten (words : List (List ℕ)) (before : List File) (after : Option (List File)) (count : ℕ) : Type 0 where
+pub record IsWritten (words : List (List ℕ)) (before : Files) (after : Option Files) (count : ℕ) : Type 0 where
   pub command : Apply
   pub path : List ℕ
   pub bytes : List ℕ
@@ -76,7 +76,7 @@ pub record IsWritten (words : List (List ℕ)) (before : List File) (after : Opt
   pub written : after ≡ Some (with_file command.out path (take count bytes) before)
 
 -- or whole
-pub record IsWholeWritten (words : List (List ℕ)) (before : List File) (after : Option (List File)) : Type 0 where
+pub record IsWholeWritten (words : List (List ℕ)) (before : Files) (after : Option Files) : Type 0 where
   pub command : Apply
   pub path : List ℕ
   pub bytes : List ℕ
@@ -85,23 +85,23 @@ pub record IsWholeWritten (words : List (List ℕ)) (before : List File) (after 
   pub written : after ≡ Some (with_file command.out path bytes before)
 
 -- the new name is taken by another field
-pub record IsTaken (words : List (List ℕ)) (before : List File) : Type 0 where
+pub record IsTaken (words : List (List ℕ)) (before : Files) : Type 0 where
   pub command : Apply
   pub path : List ℕ
   pub report : List ℕ
   pub answer : HasAnswer words before command path (Refused report)
 
 -- whatever the status, the files are as before, or the one file that status 0 writes holds a prefix of its bytes
-abbrev pub TouchesOneFile : List (List ℕ) → List File → Option (List File) → Type 0
+abbrev pub TouchesOneFile : List (List ℕ) → Files → Option Files → Type 0
 TouchesOneFile words before after = (after ≡ Some before) ⊎ ((count : ℕ) × IsWritten words before after count)
 
 -- a status other than 8 and 9 had its cause, and the files are as before
-pub record HasOtherCause (words : List (List ℕ)) (before : List File) (after : Option (List File)) (reads reads_after : ℕ) : Type 0 where
+pub record HasOtherCause (words : List (List ℕ)) (before : Files) (after : Option Files) (reads reads_after : ℕ) : Type 0 where
   pub same : after ≡ Some before
   pub cause : AreBadWords words ⊎ (HasNoForm words before ⊎ (IsTaken words before ⊎ Rose reads reads_after))
 
 -- where the put alone failed: the changed file stands whole, or another status had its cause
-abbrev pub StandsWhole : List (List ℕ) → List File → Option (List File) → ℕ → ℕ → Type 0
+abbrev pub StandsWhole : List (List ℕ) → Files → Option Files → ℕ → ℕ → Type 0
 StandsWhole words before after reads reads_after = IsWholeWritten words before after ⊎ HasOtherCause words before after reads reads_after
 
 -- no count of a failed call changed
@@ -111,5 +111,5 @@ pub record CountsAreSame (reads writes puts reads_after writes_after puts_after 
   pub same_puts : puts_after ≡ puts
 
 -- the request that the words name is there
-abbrev pub HasRequest : List (List ℕ) → List File → Type 0
-HasRequest words files = (command : Apply) → IsApply words command → IsSome (content [] command.request files)
+abbrev pub HasRequest : List (List ℕ) → Files → Type 0
+HasRequest words files = (command : Apply) → IsApply words command → IsSome (files [] command.request)

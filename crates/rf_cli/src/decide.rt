@@ -1,11 +1,10 @@
 ghost use Rattle.std.specs.Prelude.{◌≡◌, IfOk, IfSome, IsErrOf, IsSome, IsTrue, []};
 ghost use Rattle.rf_world.specs.Fault.{HasCause};
-ghost use Rattle.rf_world.specs.World.{content};
 ghost use Rattle.rf_cli.specs.Command.{command_seen};
 ghost use Rattle.rf_cli.specs.Reads.{IsRight};
 
 use crate::command::ApplyWords;
-use crate::java_path::only_java;
+use crate::java_files::only_java;
 use rf_engine::{FirstPath, first_path};
 use rf_text::Bytes;
 use rf_world::{World, WorldErr};
@@ -31,7 +30,7 @@ pub(crate) fn decide<W: World>(
     ensures cause { HasCause WorldErr.Failed WorldErr.Memory
         (W.read_faults world.old) (W.read_faults world.new) result }
     ensures never { IsTrue (W.honest world.old)
-        → IfSome (W.told world.old) (λ files. IsSome (content [] command.now.request.now files))
+        → IfSome (W.told world.old) (λ files. IsSome (files [] command.now.request.now))
         → IsErrOf result WorldErr.Failed → ⊥ }
 
     ensures same_files { W.told world.new ≡ W.told world.old }

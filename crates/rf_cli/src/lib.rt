@@ -3,7 +3,7 @@
 
 mod command;
 mod decide;
-mod java_path;
+mod java_files;
 mod put;
 mod status;
 mod whole_run;

@@ -1,7 +1,8 @@
 ghost use Rattle.std.specs.Prelude.{◌≡◌, ◌≢◌, ◌⊎◌, IfSome, IsTrue};
-ghost use Rattle.rf_world.specs.Fault.{Rose};
-ghost use Rattle.rf_cli.specs.Acting.{Acts, ActsByCounts};
-ghost use Rattle.rf_cli.specs.Put.{Puts, bad_words_line, not_yet_line, read_fault_line};
+ghost use Rattle.rf_world.specs.Fault.{Rose, next_count};
+ghost use Rattle.rf_cli.specs.Acting.{Acts, run_state};
+ghost use Rattle.rf_cli.specs.Put.{Puts, bad_words_line, not_yet_line, read_fault_line, sink_state};
+ghost use Rattle.rf_cli.specs.RunEnd.{RunEnd};
 ghost use Rattle.rf_cli.specs.WholeRun.{AreBadWords, CountsAreSame, HasNoForm, HasRequest, IsChanged, IsExact, IsFault, IsRefused, MayHaveWritten, StandsWhole, TouchesOneFile};
 
 use crate::Status;
@@ -19,35 +20,68 @@ use std::alloc::Global;
 /// file. The words are read first, a LIB other than `-` is answered next, then come the request, the number of files
 /// and the file. Then the changed file is written under OUT, and last the lines of the answer are put in one call.
 pub fn run<W: World, S: Sink>(alloc: Global, words: &[Bytes], world: &mut W, out: &mut S) -> Status
+    // How it ends: the cause, what is written, and the one line that is put, whole or a front of it.
+    ensures ends { RunEnd words.now
+        (run_state (W.told world.old) (W.read_faults world.old) (W.write_faults world.old)
+        (W.honest world.old)
+        (sink_state (S.told out.old) (S.faults out.old) (S.puts out.old)))
+        (run_state (W.told world.new) (W.read_faults world.new) (W.write_faults world.new)
+        (W.honest world.new)
+        (sink_state (S.told out.new) (S.faults out.new) (S.puts out.new))) result }
+
     // When each status comes, and what is put and written then.
     ensures ok { result ≡ Status.Ok → IfSome (W.told world.old)
         (λ files. IsChanged words.now files (W.told world.new) (S.told out.old) (S.told out.new)) }
     ensures refused { result ≡ Status.Refused → IfSome (W.told world.old)
         (λ files. IsRefused words.now files (S.told out.old) (S.told out.new)) }
     ensures bad_words { result ≡ Status.BadWords → AreBadWords words.now }
-    ensures bad_words_put { result ≡ Status.BadWords → Puts bad_words_line (S.told out.old) (S.told out.new) }
+    ensures bad_words_put { result ≡ Status.BadWords
+        → Puts bad_words_line (S.told out.old) (S.told out.new) }
     ensures not_yet { result ≡ Status.NotYet → IfSome (W.told world.old) (HasNoForm words.now) }
-    ensures not_yet_put { result ≡ Status.NotYet → Puts not_yet_line (S.told out.old) (S.told out.new) }
-    ensures read_fault { result ≡ Status.ReadFault → Rose (W.read_faults world.old) (W.read_faults world.new) }
-    ensures read_fault_put { result ≡ Status.ReadFault → Puts read_fault_line (S.told out.old) (S.told out.new) }
+    ensures not_yet_put { result ≡ Status.NotYet
+        → Puts not_yet_line (S.told out.old) (S.told out.new) }
+    ensures read_fault { result ≡ Status.ReadFault
+        → Rose (W.read_faults world.old) (W.read_faults world.new) }
+    ensures read_fault_put { result ≡ Status.ReadFault
+        → Puts read_fault_line (S.told out.old) (S.told out.new) }
     ensures write_fault { result ≡ Status.WriteFault
-        → Rose (W.write_faults world.old) (W.write_faults world.new) ⊎ Rose (S.faults out.old) (S.faults out.new) }
-
+        → Rose (W.write_faults world.old) (W.write_faults world.new)
+        ⊎ Rose (S.faults out.old) (S.faults out.new) }
     ensures write_fault_whole { result ≡ Status.WriteFault
-        → (Rose (W.write_faults world.old) (W.write_faults world.new) → ⊥) → IfSome (W.told world.old)
-        (λ files. StandsWhole words.now files (W.told world.new) (W.read_faults world.old) (W.read_faults world.new)) }
+        → (Rose (W.write_faults world.old) (W.write_faults world.new) → ⊥)
+        → IfSome (W.told world.old) (λ files. StandsWhole words.now files (W.told world.new)
+        (W.read_faults world.old) (W.read_faults world.new)) }
 
     // And that each comes whenever its cause holds and no call failed.
     ensures exact { IfSome (W.told world.old) (λ files. IsExact words.now files result) }
 
     // What stays as it was.
     ensures unchanged { MayHaveWritten result ⊎ (W.told world.new ≡ W.told world.old) }
-    ensures touched { IfSome (W.told world.old) (λ files. TouchesOneFile words.now files (W.told world.new)) }
+    ensures touched { IfSome (W.told world.old)
+        (λ files. TouchesOneFile words.now files (W.told world.new)) }
     ensures counts { IsFault result
         ⊎ CountsAreSame (W.read_faults world.old) (W.write_faults world.old) (S.faults out.old)
         (W.read_faults world.new) (W.write_faults world.new) (S.faults out.new) }
-    ensures honest { IsTrue (W.honest world.old) → IfSome (W.told world.old) (HasRequest words.now)
+    ensures honest { IsTrue (W.honest world.old)
+        → IfSome (W.told world.old) (HasRequest words.now)
         → (result ≢ Status.ReadFault) × (W.read_faults world.new ≡ W.read_faults world.old) }
+
+    // At most one line is put, and exactly one where memory is not wanted.
+    ensures puts { (S.puts out.new ≡ next_count (S.puts out.old))
+        ⊎ ((result ≡ Status.Memory) × (S.puts out.new ≡ S.puts out.old)) }
+{
+    go(alloc, words, world, out)
+}
+
+/// The body of `run`.
+fn go<W: World, S: Sink>(alloc: Global, words: &[Bytes], world: &mut W, out: &mut S) -> Status
+    ensures { RunEnd words.now
+        (run_state (W.told world.old) (W.read_faults world.old) (W.write_faults world.old)
+        (W.honest world.old)
+        (sink_state (S.told out.old) (S.faults out.old) (S.puts out.old)))
+        (run_state (W.told world.new) (W.read_faults world.new) (W.write_faults world.new)
+        (W.honest world.new)
+        (sink_state (S.told out.new) (S.faults out.new) (S.puts out.new))) result }
 {
     let Some(command) = parse(words) else {
         return put(alloc, out, b"bad words\n", Status::BadWords);
@@ -67,10 +101,13 @@ fn act<W: World, S: Sink>(
     world: &mut W,
     out: &mut S,
 ) -> Status
-    ensures acts { Acts command.now.out.now decision.path decision.answer result
-        (W.write_faults world.old) (W.write_faults world.new) (W.told world.old) (W.told world.new) (S.told out.old) (S.told out.new) }
-    ensures causes { ActsByCounts result
-        (W.write_faults world.old) (W.write_faults world.new) (S.faults out.old) (S.faults out.new) }
+    ensures acts { Acts command.now.out.now decision.path decision.answer
+        (run_state (W.told world.old) (W.read_faults world.old) (W.write_faults world.old)
+        (W.honest world.old)
+        (sink_state (S.told out.old) (S.faults out.old) (S.puts out.old)))
+        (run_state (W.told world.new) (W.read_faults world.new) (W.write_faults world.new)
+        (W.honest world.new)
+        (sink_state (S.told out.new) (S.faults out.new) (S.puts out.new))) result }
     ensures same_reads { W.read_faults world.new ≡ W.read_faults world.old }
 {
     let Decision { path, answer } = decision;
@@ -85,7 +122,7 @@ fn act<W: World, S: Sink>(
         ) {
             Ok(()) => put(alloc, out, report.as_slice(), Status::Ok),
             Err(WorldErr::Failed) => {
-                let _ = out.put(alloc, b"write fault\n");
+                let _said = put(alloc, out, b"write fault\n", Status::WriteFault);
                 Status::WriteFault
             }
             Err(WorldErr::Memory) => Status::Memory,

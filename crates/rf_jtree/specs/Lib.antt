@@ -10,6 +10,7 @@ pub mod ExprTrees
 pub mod FileTree
 pub mod Guesses
 pub mod Identifiers
+pub mod JavaPath
 pub mod Kinds
 pub mod Levels
 pub mod NameFits

@@ -4,6 +4,7 @@
 mod decls;
 mod exprs;
 mod identifiers;
+mod java_path;
 pub mod keyword_names;
 pub mod levels;
 mod name_text;
@@ -20,6 +21,7 @@ mod words;
 pub use decls::{Body, CtorCall, Import, Member, Param, Params, Ret, TypeDecl, Unit};
 pub use exprs::{Args, Braces, Expr, Init};
 pub use identifiers::{is_identifier, is_letter, is_letter_or_digit, is_word, kind_of_word};
+pub use java_path::is_java_path;
 pub use names::{Dims, Dotted, Many, Mod, Name, Strs, TypeBase, TypeUse};
 pub use operators::{Op, every_operator_is_found, operator, operators_are_found};
 pub use stmts::{Block, Catch, ForFirst, Group, Local, Stmt, Var};

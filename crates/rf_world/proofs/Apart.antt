@@ -12,7 +12,8 @@ use Rattle.std.proofs.lemmas.Slice.Eq.{bytes_eq-Decides}
 use Rattle.std.proofs.lemmas.Bool.{cases_eq, ltb-true, ltb-false}
 use Rattle.std.specs.Cmp.Derive.{both_true}
 use Rattle.std.proofs.lemmas.Grind.{common_steps}
-use Rattle.rf_world.specs.World.{File, AreApart, AreDistinct, is_at, placed, with_file, paths_under}
+use Rattle.rf_world.specs.MemFiles.{File, AreApart, is_at, placed, put_file, paths_under}
+use Rattle.rf_world.specs.World.{AreDistinct}
 
 -- two files at one root and path
 record SamePlace (file other : File) : Type 0 where
@@ -52,8 +53,8 @@ apart-push files root path bytes none apart =
     all_pairs_push R files (root, path, bytes) apart none
 
 -- a file that is added or replaced leaves no two files at one root and path
-pub with_file_apart : (root path bytes : List ℕ) (files : List File) → AreApart files → AreApart (with_file root path bytes files)
-with_file_apart root path bytes files apart = by (nat_lt at (length files)) refl
+pub put_file_apart : (root path bytes : List ℕ) (files : List File) → AreApart files → AreApart (put_file root path bytes files)
+put_file_apart root path bytes files apart = by (nat_lt at (length files)) refl
   where
     at : ℕ
     at = position_or_len (is_at root path) files

@@ -1,4 +1,4 @@
--- What `with_file` means: that file can be read back, and each other file is as it was.
+-- What `put_file` means: that file can be read back, and each other file is as it was.
 use Rattle.std.proofs.Common.{◌≡◌, ◌≢◌, ℕ, ◌<◌, ◌≤◌, Bool, true, false, cond, List, [], ◌∷◌, ◌++◌, length, get_or, refl, sym, ◌∙◌, ap, Option, Some, None, nat_lt}
 use Rattle.std.specs.Prelude.{find, option_map}
 use Rattle.std.specs.Option.{option_or}
@@ -9,7 +9,8 @@ use Rattle.std.proofs.lemmas.List.Folds.{find-set, find_past, find-append, find_
 use Rattle.std.proofs.lemmas.List.Sums.{passes_at_first}
 use Rattle.std.proofs.lemmas.Option.{slice_get_past}
 use Rattle.std.proofs.lemmas.Slice.Eq.{bytes_eq-Decides}
-use Rattle.rf_world.specs.World.{File, IsWritten, is_at, placed, with_file}
+use Rattle.rf_world.specs.MemFiles.{File, IsWritten, content, is_at, map_of, placed, put_file}
+use Rattle.rf_world.specs.World.{with_file}
 use Rattle.rf_world.proofs.Apart.{is_at-sound}
 
 -- a file is at its own root and path
@@ -40,9 +41,9 @@ find-push_other at file files fails = rw (find-append at files (file ∷ []), fa
     same (Some other) = refl
 
 -- a file that is added or replaced has its bytes, and each other file is as before
-pub with_file_written : (root path bytes : List ℕ) (files : List File)
-    → IsWritten root path bytes files (with_file root path bytes files)
-with_file_written root path bytes files = by (nat_lt at (length files)) refl
+pub put_file_written : (root path bytes : List ℕ) (files : List File)
+    → IsWritten root path bytes files (put_file root path bytes files)
+put_file_written root path bytes files = by (nat_lt at (length files)) refl
   where
     at : ℕ
     at = position_or_len (is_at root path) files

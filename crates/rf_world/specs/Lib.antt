@@ -1,4 +1,5 @@
 pub mod Calls
 pub mod Fault
+pub mod MemFiles
 pub mod Memory
 pub mod World

@@ -1,7 +1,7 @@
 -- What the worlds and sinks in memory hold and count.
 use Rattle.std.specs.Prelude.{◌≡◌, ℕ, List}
 use Rattle.rf_world.specs.Calls.{CountsOneCall}
-use Rattle.rf_world.specs.World.{File}
+use Rattle.rf_world.specs.MemFiles.{File}
 use Rattle.rf_world.specs.declared.calls.Calls.{Calls}
 use Rattle.rf_world.specs.declared.honest_sink.HonestSink.{HonestSink}
 use Rattle.rf_world.specs.declared.honest_world.HonestWorld.{HonestWorld}
@@ -59,3 +59,7 @@ absent_reads world = world.read_faults
 -- the bytes that an honest sink has taken
 abbrev pub honest_bytes : HonestSink → List ℕ
 honest_bytes sink = sink.bytes
+
+-- how many calls of `put` were made
+abbrev pub honest_puts : HonestSink → ℕ
+honest_puts sink = sink.puts

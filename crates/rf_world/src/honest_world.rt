@@ -1,6 +1,7 @@
 ghost use Rattle.std.specs.Prelude.{◌≡◌, ◌↔◌, [], Some, None, true, refl, IsErrOf, IfOk, OnOk, OnErr, IsOkUnless};
 ghost use Rattle.rf_world.specs.Fault.{CountsFaults};
-ghost use Rattle.rf_world.specs.World.{AreApart, AreDistinct, IsWritten, content, paths_under, with_file};
+ghost use Rattle.rf_world.specs.MemFiles.{AreApart, IsWritten, content, map_of, paths_under, put_file};
+ghost use Rattle.rf_world.specs.World.{AreDistinct, IsListing, MayHoldPrefix, with_file};
 
 use crate::{World, WorldErr, mem_files};
 use rf_text::{Bytes, List, Memory};
@@ -37,7 +38,7 @@ impl HonestWorld {
     }
 
     /// Adds one file or replaces its bytes.
-    #[tactic(auto, using(crate::proofs::Apart::with_file_apart, crate::proofs::Written::with_file_written))]
+    #[tactic(auto, using(crate::proofs::Apart::put_file_apart, crate::proofs::Written::put_file_written))]
     pub fn put_file(
         &mut self,
         alloc: Global,
@@ -47,7 +48,7 @@ impl HonestWorld {
     ) -> Result<(), Memory>
         ensures ok { OnOk result
             (honest_files self.new
-            ≡ with_file root.now path.now bytes.now (honest_files self.old)) }
+            ≡ put_file root.now path.now bytes.now (honest_files self.old)) }
         ensures written { OnOk result
             (IsWritten root.now path.now bytes.now (honest_files self.old) (honest_files self.new)) }
         ensures err { OnErr result (honest_files self.new ≡ honest_files self.old) }
@@ -60,7 +61,7 @@ impl HonestWorld {
 impl World for HonestWorld {
     ghost use Rattle.rf_world.specs.Memory.{absent_reads, honest_files};
 
-    ghost told = { λ world. Some world.files };
+    ghost told = { λ world. Some (map_of world.files) };
 
     ghost read_faults = { λ world. world.read_faults };
 
@@ -69,9 +70,11 @@ impl World for HonestWorld {
     ghost honest = { λ _. true };
 
     /// It answers an `Err` only for want of memory.
-    #[tactic(auto, using(crate::proofs::Apart::paths_are_distinct))]
+    #[tactic(auto, using(crate::proofs::Listing::paths_are_listing, crate::proofs::Apart::paths_are_distinct))]
     fn list(&mut self, alloc: Global, root: &[u8]) -> Result<List<Bytes>, WorldErr>
         ensures ok { IfOk result (λ paths. paths ≡ paths_under root.now (honest_files self.old)) }
+        ensures listing { IfOk result
+            (λ paths. IsListing root.now (map_of (honest_files self.old)) paths) }
         ensures once { IfOk result AreDistinct }
         ensures memory { IsOkUnless result WorldErr.Memory }
 
@@ -101,7 +104,7 @@ impl World for HonestWorld {
     }
 
     /// It answers an `Err` only for want of memory, and then all files are as before.
-    #[tactic(auto, using(crate::proofs::Apart::with_file_apart))]
+    #[tactic(auto, using(crate::proofs::Apart::put_file_apart))]
     fn write(
         &mut self,
         alloc: Global,
@@ -109,9 +112,13 @@ impl World for HonestWorld {
         path: &[u8],
         bytes: &[u8],
     ) -> Result<(), WorldErr>
+        ensures written { OnOk result (map_of (honest_files self.new)
+            ≡ with_file root.now path.now bytes.now (map_of (honest_files self.old))) }
+        ensures prefix { OnErr result (MayHoldPrefix root.now path.now bytes.now
+            (Some (map_of (honest_files self.old))) (Some (map_of (honest_files self.new)))) }
         ensures ok { OnOk result
             (honest_files self.new
-            ≡ with_file root.now path.now bytes.now (honest_files self.old)) }
+            ≡ put_file root.now path.now bytes.now (honest_files self.old)) }
         ensures err { OnErr result (honest_files self.new ≡ honest_files self.old) }
         ensures memory { IsOkUnless result WorldErr.Memory }
         ensures same_reads { absent_reads self.new ≡ absent_reads self.old }
@@ -120,6 +127,4 @@ impl World for HonestWorld {
     }
 
     ghost tells = { λ _ _. refl };
-
-    ghost apart = { λ world. world.apart };
 }

@@ -1,7 +1,7 @@
 //! A list of files in memory, which the worlds in memory share.
 ghost use Rattle.std.specs.Prelude.{◌≡◌, ◌<◌, IfOk, OnOk, OnErr, length, position};
 ghost use Rattle.std.specs.Option.{ForSome, option_copied};
-ghost use Rattle.rf_world.specs.World.{content, is_at, paths_under, placed, with_file};
+ghost use Rattle.rf_world.specs.MemFiles.{content, is_at, paths_under, placed, put_file};
 
 use rf_text::{Bytes, List, Memory};
 use std::alloc::Global;
@@ -45,7 +45,7 @@ pub(crate) fn put(
     path: &[u8],
     bytes: &[u8],
 ) -> Result<(), Memory>
-    ensures ok { OnOk result (files.new ≡ with_file root.now path.now bytes.now files.old) }
+    ensures ok { OnOk result (files.new ≡ put_file root.now path.now bytes.now files.old) }
     ensures err { OnErr result (files.new ≡ files.old) }
 {
     let file = (

@@ -49,6 +49,8 @@ impl Sink for MemSink {
 
     ghost faults = { λ sink. sink.faults };
 
+    ghost puts = { λ sink. sink.calls.made };
+
     /// It fails exactly where it is a failing call. After an `Err` no byte has been appended.
     fn put(&mut self, _alloc: Global, bytes: &[u8]) -> Result<(), SinkErr>
         ensures ok { OnOk result (sink_bytes self.new ≡ sink_bytes self.old ++ bytes.now) }

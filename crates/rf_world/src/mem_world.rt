@@ -1,6 +1,7 @@
 ghost use Rattle.std.specs.Prelude.{◌≡◌, ◌/◌, ◌≤◌, ◌↔◌, ◌⊎◌, [], Some, None, false, refl, IsErr, IsErrOf, IfOk, OnOk, OnErr, length, take};
 ghost use Rattle.rf_world.specs.Fault.{CountsFaults, next_count};
-ghost use Rattle.rf_world.specs.World.{AreApart, AreDistinct, IsWritten, content, paths_under, with_file};
+ghost use Rattle.rf_world.specs.MemFiles.{AreApart, IsWritten, content, map_of, paths_under, put_file};
+ghost use Rattle.rf_world.specs.World.{AreDistinct, IsListing, MayHoldPrefix, with_file};
 
 use crate::calls::Calls;
 use crate::{World, WorldErr, mem_files};
@@ -46,7 +47,7 @@ impl MemWorld {
     }
 
     /// Adds one file or replaces its bytes. This is no call of the world.
-    #[tactic(auto, using(crate::proofs::Apart::with_file_apart, crate::proofs::Written::with_file_written))]
+    #[tactic(auto, using(crate::proofs::Apart::put_file_apart, crate::proofs::Written::put_file_written))]
     pub fn put_file(
         &mut self,
         alloc: Global,
@@ -55,7 +56,7 @@ impl MemWorld {
         bytes: &[u8],
     ) -> Result<(), Memory>
         ensures ok { OnOk result
-            (world_files self.new ≡ with_file root.now path.now bytes.now (world_files self.old)) }
+            (world_files self.new ≡ put_file root.now path.now bytes.now (world_files self.old)) }
         ensures written { OnOk result
             (IsWritten root.now path.now bytes.now (world_files self.old) (world_files self.new)) }
         ensures err { OnErr result (world_files self.new ≡ world_files self.old) }
@@ -80,7 +81,7 @@ impl World for MemWorld {
     ghost use Rattle.rf_world.specs.Calls.{CountsOneCall, FailsNext};
     ghost use Rattle.rf_world.specs.Memory.{LooksOnly, failed_reads, failed_writes, world_calls, world_files};
 
-    ghost told = { λ world. Some world.files };
+    ghost told = { λ world. Some (map_of world.files) };
 
     ghost read_faults = { λ world. world.read_faults };
 
@@ -92,6 +93,8 @@ impl World for MemWorld {
     #[tactic(auto, using(crate::proofs::Apart::paths_are_distinct))]
     fn list(&mut self, alloc: Global, root: &[u8]) -> Result<List<Bytes>, WorldErr>
         ensures ok { IfOk result (λ paths. paths ≡ paths_under root.now (world_files self.old)) }
+        ensures listing { IfOk result
+            (λ paths. IsListing root.now (map_of (world_files self.old)) paths) }
         ensures once { IfOk result AreDistinct }
         ensures failed { IsErrOf result WorldErr.Failed ↔ FailsNext (world_calls self.old) }
         ensures counts { CountsFaults WorldErr.Failed WorldErr.Memory
@@ -124,7 +127,7 @@ impl World for MemWorld {
     }
 
     /// A failing call puts the first half of the bytes, rounded down, into the file.
-    #[tactic(auto, using(crate::proofs::Apart::with_file_apart))]
+    #[tactic(auto, using(crate::proofs::Apart::put_file_apart))]
     fn write(
         &mut self,
         alloc: Global,
@@ -132,10 +135,14 @@ impl World for MemWorld {
         path: &[u8],
         bytes: &[u8],
     ) -> Result<(), WorldErr>
+        ensures written { OnOk result (map_of (world_files self.new)
+            ≡ with_file root.now path.now bytes.now (map_of (world_files self.old))) }
+        ensures prefix { OnErr result (MayHoldPrefix root.now path.now bytes.now
+            (Some (map_of (world_files self.old))) (Some (map_of (world_files self.new)))) }
         ensures ok { OnOk result
-            (world_files self.new ≡ with_file root.now path.now bytes.now (world_files self.old)) }
+            (world_files self.new ≡ put_file root.now path.now bytes.now (world_files self.old)) }
         ensures half { IsErrOf result WorldErr.Failed
-            → world_files self.new ≡ with_file root.now path.now
+            → world_files self.new ≡ put_file root.now path.now
             (take (length bytes.now / 2) bytes.now) (world_files self.old) }
         ensures unchanged { IsErrOf result WorldErr.Memory
             → world_files self.new ≡ world_files self.old }
@@ -161,6 +168,4 @@ impl World for MemWorld {
     }
 
     ghost tells = { λ _ _. refl };
-
-    ghost apart = { λ world. world.apart };
 }

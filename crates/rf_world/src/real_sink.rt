@@ -9,14 +9,20 @@ use std::io::ErrorKind;
 pub struct RealSink<'a, R: Print> {
     rt: &'a R,
     faults: u64,
+    puts: u64,
 }
 
 impl<'a, R: Print> RealSink<'a, R> {
     /// The standard output of the system that `rt` stands for, with no call failed yet.
     pub fn new(rt: &'a R) -> RealSink<'a, R>
-        ensures { ⟦<RealSink<'a, R> as Sink>⟧.faults result ≡ 0 }
+        ensures faults { ⟦<RealSink<'a, R> as Sink>⟧.faults result ≡ 0 }
+        ensures puts { ⟦<RealSink<'a, R> as Sink>⟧.puts result ≡ 0 }
     {
-        RealSink { rt, faults: 0 }
+        RealSink {
+            rt,
+            faults: 0,
+            puts: 0,
+        }
     }
 }
 
@@ -25,7 +31,10 @@ impl<'a, R: Print> Sink for RealSink<'a, R> {
 
     ghost faults = { λ sink. sink.faults };
 
+    ghost puts = { λ sink. sink.puts };
+
     fn put(&mut self, _alloc: Global, bytes: &[u8]) -> Result<(), SinkErr> {
+        self.puts = self.puts.saturating_add(1);
         match self.rt.write_all(bytes) {
             Ok(()) => Ok(()),
             Err(error) if error.kind() == ErrorKind::OutOfMemory => Err(SinkErr::Memory),

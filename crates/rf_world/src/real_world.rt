@@ -35,8 +35,6 @@ impl<'a, R: Files + AllocGlobal + Clone + Drop> RealWorld<'a, R> {
 }
 
 impl<'a, R: Files + AllocGlobal + Clone + Drop> World for RealWorld<'a, R> {
-    ghost use Rattle.std.proofs.Common.{rules};
-
     ghost told = { λ _. None };
 
     ghost read_faults = { λ world. world.read_faults };
@@ -69,9 +67,7 @@ impl<'a, R: Files + AllocGlobal + Clone + Drop> World for RealWorld<'a, R> {
         written
     }
 
-    ghost tells = { Prim.search rules };
-
-    ghost apart = { λ _. tt };
+    ghost tells = { λ _ honest. honest };
 }
 
 /// Raises the count of faults where the call failed.

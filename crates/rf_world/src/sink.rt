@@ -1,5 +1,5 @@
 ghost use Rattle.std.specs.Prelude.{◌≡◌, ℕ, List as Items, Option, ◌++◌, OnOk, OnErr, option_map, take};
-ghost use Rattle.rf_world.specs.Fault.{HasCause};
+ghost use Rattle.rf_world.specs.Fault.{HasCause, next_count};
 
 use rf_text::Memory;
 use std::alloc::{AllocError, AllocFailed, Global};
@@ -47,13 +47,16 @@ impl<T: Drop> From<AllocFailed<T>> for SinkErr {
 }
 
 /// Where output goes, in order. A sink may tell the bytes that it has taken so far.
-/// It counts the calls that failed, up to 2^64 - 1.
+/// It counts its calls, and those that failed, up to 2^64 - 1 each.
 pub trait Sink {
     /// The bytes so far, where the sink tells them.
     ghost told: { Self → Option (Items ℕ) };
 
     /// The calls that failed.
     ghost faults: { Self → ℕ };
+
+    /// The calls of `put`, failed ones too.
+    ghost puts: { Self → ℕ };
 
     /// Appends the bytes. After an `Err` a prefix of them has been appended.
     fn put(&mut self, alloc: Global, bytes: &[u8]) -> Result<(), SinkErr>
@@ -62,5 +65,6 @@ pub trait Sink {
         ensures err { OnErr result ((count : ℕ) × (told self.new
             ≡ option_map (λ taken. taken ++ take count bytes.now) (told self.old))) }
         ensures cause { HasCause SinkErr.Failed SinkErr.Memory
-            (faults self.old) (faults self.new) result };
+            (faults self.old) (faults self.new) result }
+        ensures call { puts self.new ≡ next_count (puts self.old) };
 }

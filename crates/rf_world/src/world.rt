@@ -1,6 +1,6 @@
-ghost use Rattle.std.specs.Prelude.{◌≡◌, ℕ, Bool, List as Items, Option, Some, None, IsTrue, IsErrOf, IfOk, OnOk, OnErr, IfSome, IsSome, option_map};
+ghost use Rattle.std.specs.Prelude.{◌≡◌, ℕ, Bool, Option, Some, None, IsTrue, IsErrOf, IfOk, OnOk, OnErr, IfSome, IsSome, option_map};
 ghost use Rattle.rf_world.specs.Fault.{HasCause};
-ghost use Rattle.rf_world.specs.World.{File, AreApart, AreDistinct, MayHoldPrefix, content, paths_under, with_file};
+ghost use Rattle.rf_world.specs.World.{Files, AreDistinct, IsListing, MayHoldPrefix, with_file};
 
 use rf_text::{Bytes, List, Memory};
 use std::alloc::{AllocError, AllocFailed, Global};
@@ -50,11 +50,11 @@ impl<T: Drop> From<AllocFailed<T>> for WorldErr {
 /// Files by root and path: the root is where a tree of files stands, and the path goes down from
 /// it, with `/`.
 ///
-/// A world may tell its files, and then the clauses say what each call gives and does.
+/// A world may tell its files, as a map, and then the clauses say what each call gives and does.
 /// It counts the reads and the writes that failed, up to 2^64 - 1.
 pub trait World {
     /// The files, where the world tells them.
-    ghost told: { Self → Option (Items File) };
+    ghost told: { Self → Option Files };
 
     /// The calls of `list` and `read` that failed.
     ghost read_faults: { Self → ℕ };
@@ -65,10 +65,10 @@ pub trait World {
     /// Whether only a read of a file that is not there fails.
     ghost honest: { Self → Bool };
 
-    /// The paths of the files under `root`, each once.
+    /// The paths of the files under `root`, each once, in any order.
     fn list(&mut self, alloc: Global, root: &[u8]) -> Result<List<Bytes>, WorldErr>
         ensures ok { IfOk result (λ paths.
-            IfSome (told self.old) (λ files. paths ≡ paths_under root.now files)) }
+            IfSome (told self.old) (λ files. IsListing root.now files paths)) }
         ensures once { IfOk result AreDistinct }
         ensures cause { HasCause WorldErr.Failed WorldErr.Memory
             (read_faults self.old) (read_faults self.new) result }
@@ -81,11 +81,11 @@ pub trait World {
     /// The bytes of one file. A file that is not there is `Failed`.
     fn read(&mut self, alloc: Global, root: &[u8], path: &[u8]) -> Result<Bytes, WorldErr>
         ensures ok { IfOk result (λ bytes.
-            IfSome (told self.old) (λ files. content root.now path.now files ≡ Some bytes)) }
+            IfSome (told self.old) (λ files. files root.now path.now ≡ Some bytes)) }
         ensures cause { HasCause WorldErr.Failed WorldErr.Memory
             (read_faults self.old) (read_faults self.new) result }
         ensures absent { IsTrue (honest self.old) → IsErrOf result WorldErr.Failed
-            → IfSome (told self.old) (λ files. content root.now path.now files ≡ None) }
+            → IfSome (told self.old) (λ files. files root.now path.now ≡ None) }
 
         ensures same_files { told self.new ≡ told self.old }
         ensures same_write_faults { write_faults self.new ≡ write_faults self.old }
@@ -112,7 +112,4 @@ pub trait World {
 
     /// An honest world tells its files.
     ghost tells: { (world : Self) → IsTrue (honest world) → IsSome (told world) };
-
-    /// No two files that a world tells stand at one root and path.
-    ghost apart: { (world : Self) → IfSome (told world) AreApart };
 }

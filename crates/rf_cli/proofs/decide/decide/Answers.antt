@@ -1,7 +1,7 @@
 use Rattle.std.proofs.Common.{refl, sym, ap, subst, ◌∙◌, IsTrue, [], ◌∷◌, filter, rules}
-use Rattle.rf_cli.specs.JavaPath.{is_java_path}
+use Rattle.rf_jtree.specs.JavaPath.{is_java_path}
 use Rattle.rf_cli.specs.Command.{command_seen}
-use Rattle.rf_cli.proofs.ReadLemmas.{never_absent, right_told}
+use Rattle.rf_cli.proofs.ReadLemmas.{never_absent, none_told, right_told}
 use Rattle.rf_cli.proofs.decide.decide.Goals as goal
 
 pub returns-in_err-file-clause-never : goal.returns-in_err-file-clause-never
@@ -20,3 +20,8 @@ returns-clause-right g c =
     c.read.ensures.same_files c.list.ensures.same_files c.ne.ensures c.if-ne.false c.as_slice.ensures
     refl c.in_ok-request.ensures.ok c.in_ok-paths.ensures.ok c.as_slice-2.ensures c.in-Some.ensures (c.in_ok-path.ensures ∙ c.as_slice-3.ensures)
     c.in_ok-file.ensures.ok c.as_slice-at.ensures c.as_slice-4.ensures c.as_slice-5.ensures c.in_ok-answer.ensures
+
+pub returns-in_default-clause-right : goal.returns-in_default-clause-right
+returns-in_default-clause-right g c =
+    none_told (command_seen c.args.command.now) c.not_yet-in_default.result.path c.in_ok-paths.paths _ c.not_yet-in_default.result.answer (g.W.World.told c.args.world.now) _
+    c.read.ensures.same_files c.in_ok-paths.ensures.ok c.as_slice-2.ensures c.in_default.ensures c.not_yet-in_default.ensures

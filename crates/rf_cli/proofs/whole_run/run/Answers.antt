@@ -1,43 +1,50 @@
-use Rattle.std.proofs.Common.{ap, subst, Err}
-use Rattle.rf_world.specs.Fault.{Rose}
-use Rattle.rf_cli.specs.Command.{command_seen}
-use Rattle.rf_cli.proofs.WholeRunLemmas.{changed, refused, not_yet, exact, touched, stands_whole, bad_words_exact, request_is_there}
+use Rattle.rf_cli.proofs.Headline as headline
 use Rattle.rf_cli.proofs.whole_run.run.Goals as goal
 
-pub returns-in-Ok-clause-ok : goal.returns-in-Ok-clause-ok
-returns-in-Ok-clause-ok g c =
-    changed c.args.words.now (command_seen c.in-Some.command) c.in-Some.ensures c.in-Ok.decision.path c.act.result _ _ _ _ _ (g.W.World.told c.args.world.now) _ c.in-Ok.decision.answer
-    c.decide.ensures.same_files c.in-Ok.ensures.right c.act.ensures.acts
+pub returns-clause-ok : goal.returns-clause-ok
+returns-clause-ok g c = headline.ok c.args.words.now _ _ c.go.result c.go.ensures
 
-pub returns-in-Ok-clause-refused : goal.returns-in-Ok-clause-refused
-returns-in-Ok-clause-refused g c =
-    refused c.args.words.now (command_seen c.in-Some.command) c.in-Some.ensures c.in-Ok.decision.path c.act.result _ _ _ _ _ (g.W.World.told c.args.world.now) _ c.in-Ok.decision.answer
-    c.in-Ok.ensures.right c.act.ensures.acts
+pub returns-clause-refused : goal.returns-clause-refused
+returns-clause-refused g c = headline.refused c.args.words.now _ _ c.go.result c.go.ensures
 
-pub returns-in-Ok-clause-not_yet : goal.returns-in-Ok-clause-not_yet
-returns-in-Ok-clause-not_yet g c =
-    not_yet c.args.words.now (command_seen c.in-Some.command) c.in-Some.ensures c.in-Ok.decision.path c.act.result _ _ _ _ _ (g.W.World.told c.args.world.now) _ c.in-Ok.decision.answer
-    c.in-Ok.ensures.right c.act.ensures.acts
+pub returns-clause-not_yet : goal.returns-clause-not_yet
+returns-clause-not_yet g c = headline.not_yet c.args.words.now _ _ c.go.result c.go.ensures
 
-pub returns-in-Ok-clause-exact : goal.returns-in-Ok-clause-exact
-returns-in-Ok-clause-exact g c =
-    exact c.args.words.now (command_seen c.in-Some.command) c.in-Some.ensures c.in-Ok.decision.path c.act.result _ _ _ _ _ (g.W.World.told c.args.world.now) _ c.in-Ok.decision.answer
-    c.in-Ok.ensures.right c.act.ensures.acts
+pub returns-clause-not_yet_put : goal.returns-clause-not_yet_put
+returns-clause-not_yet_put g c = headline.not_yet_put c.args.words.now _ _ c.go.result c.go.ensures
 
-pub returns-in-Ok-clause-touched : goal.returns-in-Ok-clause-touched
-returns-in-Ok-clause-touched g c =
-    touched c.args.words.now (command_seen c.in-Some.command) c.in-Some.ensures c.in-Ok.decision.path c.act.result _ _ _ _ _ (g.W.World.told c.args.world.now) _ c.in-Ok.decision.answer
-    c.decide.ensures.same_files c.in-Ok.ensures.right c.act.ensures.acts
+pub returns-clause-write_fault : goal.returns-clause-write_fault
+returns-clause-write_fault g c = headline.write_fault c.args.words.now _ _ c.go.result c.go.ensures
 
-pub returns-in-Ok-clause-write_fault_whole : goal.returns-in-Ok-clause-write_fault_whole
-returns-in-Ok-clause-write_fault_whole g c = λ is still.
-    stands_whole c.args.words.now (command_seen c.in-Some.command) c.in-Some.ensures c.in-Ok.decision.path c.act.result _ _ _ _ _ _ _ (g.W.World.told c.args.world.now) _ c.in-Ok.decision.answer
-    c.decide.ensures.same_files c.in-Ok.ensures.right c.act.ensures.acts is
-    (λ rose. still (subst (λ writes. Rose writes (g.W.World.write_faults c.act.new.world)) c.decide.ensures.same_write_faults rose))
+pub returns-clause-write_fault_whole : goal.returns-clause-write_fault_whole
+returns-clause-write_fault_whole g c = headline.write_fault_whole c.args.words.now _ _ c.go.result c.go.ensures
 
-pub returns-in_default-clause-exact : goal.returns-in_default-clause-exact
-returns-in_default-clause-exact g c = bad_words_exact c.args.words.now c.put.result (g.W.World.told c.args.world.now) c.in_default.ensures c.put.ensures.which
+pub returns-clause-exact : goal.returns-clause-exact
+returns-clause-exact g c = headline.exact c.args.words.now _ _ c.go.result c.go.ensures
 
-pub returns-in-Err-Failed-clause-honest : goal.returns-in-Err-Failed-clause-honest
-returns-in-Err-Failed-clause-honest g c = λ honest asked.
-    absurd (c.in-Err-Failed.ensures.never honest (request_is_there c.args.words.now (command_seen c.in-Some.command) (g.W.World.told c.args.world.now) c.in-Some.ensures asked) (ap (λ e. Err e) c.in-Err-Failed.field-0-is))
+pub returns-clause-unchanged : goal.returns-clause-unchanged
+returns-clause-unchanged g c = headline.unchanged c.args.words.now _ _ c.go.result c.go.ensures
+
+pub returns-clause-touched : goal.returns-clause-touched
+returns-clause-touched g c = headline.touched c.args.words.now _ _ c.go.result c.go.ensures
+
+pub returns-clause-counts : goal.returns-clause-counts
+returns-clause-counts g c = headline.counts c.args.words.now _ _ c.go.result c.go.ensures
+
+pub returns-clause-honest : goal.returns-clause-honest
+returns-clause-honest g c = headline.honest c.args.words.now _ _ c.go.result c.go.ensures
+
+pub returns-clause-puts : goal.returns-clause-puts
+returns-clause-puts g c = headline.puts c.args.words.now _ _ c.go.result c.go.ensures
+
+pub returns-clause-bad_words : goal.returns-clause-bad_words
+returns-clause-bad_words g c = λ is. (headline.bad_words c.args.words.now _ _ c.go.result c.go.ensures is).0
+
+pub returns-clause-bad_words_put : goal.returns-clause-bad_words_put
+returns-clause-bad_words_put g c = λ is. (headline.bad_words c.args.words.now _ _ c.go.result c.go.ensures is).1
+
+pub returns-clause-read_fault : goal.returns-clause-read_fault
+returns-clause-read_fault g c = λ is. (headline.read_fault c.args.words.now _ _ c.go.result c.go.ensures is).0
+
+pub returns-clause-read_fault_put : goal.returns-clause-read_fault_put
+returns-clause-read_fault_put g c = λ is. (headline.read_fault c.args.words.now _ _ c.go.result c.go.ensures is).1

@@ -1,5 +1,5 @@
 use Rattle.std.proofs.Common.{◌≡◌, take}
-use Rattle.rf_world.specs.World.{paths_under}
+use Rattle.rf_world.specs.MemFiles.{paths_under}
 use Rattle.rf_world.proofs.mem_files.paths.Given as goal
 
 -- the paths of the files that were looked at

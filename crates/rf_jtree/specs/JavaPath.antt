@@ -1,8 +1,7 @@
 -- Which files are Java files that hold a type (JLS 7.3; 7.4.1 on package-info.java).
-use Rattle.std.specs.Prelude.{ℕ, Bool, ◌||◌, ◌&&◌, not, List, ◌++◌, nat_eq, filter, codes}
+use Rattle.std.specs.Prelude.{ℕ, Bool, ◌||◌, ◌&&◌, not, List, ◌++◌, nat_eq, codes}
 use Rattle.std.specs.List.{ends_with}
 use Rattle.std.specs.Str.{bytes_eq}
-use Rattle.rf_world.specs.World.{File, paths_under}
 
 -- the last part of the path, after its last `/`, is this name
 abbrev pub has_last_part : List ℕ → List ℕ → Bool
@@ -13,7 +12,3 @@ abbrev pub is_java_path : List ℕ → Bool
 is_java_path path =
     ends_with nat_eq path (codes ".java") && not (has_last_part (codes "package-info.java") path)
     && not (has_last_part (codes "module-info.java") path)
-
--- the paths of the Java files under a root
-abbrev pub java_paths : List ℕ → List File → List (List ℕ)
-java_paths root files = filter is_java_path (paths_under root files)
