@@ -1,0 +1,12 @@
+pub mod Asks
+pub mod Compared
+pub mod Faults
+pub mod Grammar
+pub mod Kinds
+pub mod Levels
+pub mod Plain
+pub mod Programs
+pub mod Readings
+pub mod Tables
+pub mod Terms
+pub mod Tokens

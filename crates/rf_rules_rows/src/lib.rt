@@ -1,0 +1,5 @@
+//! Kind faults of small programs.
+#![tactic(auto)]
+
+#[cfg(test)]
+mod kinds;
