@@ -1,5 +1,5 @@
 ghost use Rattle.std.specs.Prelude.{◌≡◌, ◌++◌, ◌∷◌, max, map, IfOk};
-ghost use Rattle.rf_jtree.specs.ExprShown.{expr_shown, init_shown, sizes_tree, super_args_tree};
+ghost use Rattle.rf_jtree.specs.ExprShown.{expr_shown, init_shown, args_shown, braces_shown, sizes_tree, super_args_tree};
 ghost use Rattle.rf_jtree.specs.ExprTrees as trees;
 ghost use Rattle.rf_jtree.specs.NameShown.{name_shown, base_shown, type_shown};
 ghost use Rattle.rf_jexpr.specs.Made.{IsGrown, boxed_shown, boxed_init_shown, boxed_args_shown, boxed_braces_shown, exprs_found, inits_found, size_shown, super_args_found};
@@ -24,6 +24,20 @@ fn boxed_init(alloc: Global, init: Init) -> Result<Box<Init>, Memory>
     ensures { IfOk result (λ found. boxed_init_shown found ≡ init_shown init) }
 {
     Ok(Box::new(alloc, init)?)
+}
+
+/// Arguments behind a pointer.
+fn boxed_args(alloc: Global, args: Args) -> Result<Box<Args>, Memory>
+    ensures { IfOk result (λ found. boxed_args_shown found ≡ args_shown args) }
+{
+    Ok(Box::new(alloc, args)?)
+}
+
+/// Items in braces behind a pointer.
+fn boxed_braces(alloc: Global, braces: Braces) -> Result<Box<Braces>, Memory>
+    ensures { IfOk result (λ found. boxed_braces_shown found ≡ braces_shown braces) }
+{
+    Ok(Box::new(alloc, braces)?)
 }
 
 pub(crate) fn literal_of(alloc: Global, tok: Tok) -> Result<Box<Expr>, Memory>
@@ -173,7 +187,7 @@ pub(crate) fn args_of(
 ) -> Result<Box<Args>, Memory>
     ensures { IfOk result (λ found. boxed_args_shown found ≡ trees.Args left (exprs_of (exprs_found list)) right) }
 {
-    put(alloc, Args { left, list, right })
+    boxed_args(alloc, Args { left, list, right })
 }
 
 pub(crate) fn braces_of(
@@ -191,7 +205,7 @@ pub(crate) fn braces_of(
         comma,
         right,
     };
-    put(alloc, braces)
+    boxed_braces(alloc, braces)
 }
 
 pub(crate) fn value_of(alloc: Global, value: Box<Expr>) -> Result<Box<Init>, Memory>

@@ -72,12 +72,7 @@ pub fn args(alloc: Global, t: &[Tok], at: usize, room: u32) -> Result<Found<Args
     ensures gives { GivesTree args_shown args_depth room t.now at result (args (parsers room) (drop at t.now)) }
     ensures longest { IsLongestOf ArgsFit args_yield args_depth args_shown t.now at room (of_found result) }
 {
-    let found = parts::args(alloc, t, at, room)?;
-    Ok(Found {
-        tree: Box::into_inner(found.tree),
-        end: found.end,
-        depth: found.depth,
-    })
+    parts::args_alone(alloc, t, at, room)
 }
 
 /// The longest dotted name (JLS 6.2).

@@ -56,10 +56,7 @@ pub(crate) fn chosen(alloc: Global, test: Box<Expr>, tail: Choice) -> Result<Box
 {
     let mark = put(alloc, tail.mark)?;
     let colon = put(alloc, tail.colon)?;
-    boxed(
-        alloc,
-        Expr::Cond(test, mark, tail.first, colon, tail.other),
-    )
+    boxed(alloc, Expr::Cond(test, mark, tail.first, colon, tail.other))
 }
 
 fn binary_of(alloc: Global, left: Box<Expr>, operation: Operation) -> Result<Box<Expr>, Memory>
@@ -184,11 +181,7 @@ pub(crate) fn depth_called_on(name: &Name) -> usize
 
 /// A call whose method is the last identifier of the name.
 #[tactic(auto, using(crate::proofs::CalledLemmas::called))]
-pub(crate) fn named_called(
-    alloc: Global,
-    name: Name,
-    args: Box<Args>,
-) -> Result<Box<Expr>, Memory>
+pub(crate) fn named_called(alloc: Global, name: Name, args: Box<Args>) -> Result<Box<Expr>, Memory>
     ensures { IfOk result (λ found. boxed_shown found ≡ named_called (name_shown name) args) }
 {
     let Dotted { first, mut rest } = name.ids;

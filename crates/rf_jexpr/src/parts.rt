@@ -1,5 +1,6 @@
 ghost use Rattle.std.specs.Prelude.{◌≡◌, ◌≤◌, ◌<◌, ◌+◌, drop, length, map, IfOk};
 ghost use Rattle.rf_jtree.specs.declared.operator_names.TheConstants.{COMMA};
+ghost use Rattle.rf_jtree.specs.ExprShown.{args_shown};
 ghost use Rattle.rf_jtree.specs.ExprTrees.{expr_depth, args_depth, braces_depth};
 ghost use Rattle.rf_jtree.specs.NameTrees.{list_depth};
 ghost use Rattle.rf_jexpr.specs.Descent.{parsers};
@@ -130,6 +131,23 @@ pub(crate) fn args(
         tree,
         end: right.end,
         depth: list.depth,
+    })
+}
+
+/// Arguments themselves, for what holds them without a pointer.
+pub(crate) fn args_alone(
+    alloc: Global,
+    t: &[Tok],
+    at: usize,
+    room: u32,
+) -> Result<Found<Args>, ParseErr>
+    ensures { GivesTree args_shown args_depth room t.now at result (args (parsers room) (drop at t.now)) }
+{
+    let found = args(alloc, t, at, room)?;
+    Ok(Found {
+        tree: Box::into_inner(found.tree),
+        end: found.end,
+        depth: found.depth,
     })
 }
 

@@ -55,7 +55,12 @@ fn this_word(alloc: Global, t: &[Tok], at: usize) -> Result<Found<Box<Expr>>, Pa
 /// What stands behind `super.x`: the arguments of a call, where they fit.
 #[cycle(expr)]
 #[tactic(auto, unfolding(crate::specs::Reads::optional, crate::specs::Reads::and_then, crate::specs::Reads::or_else))]
-fn super_args(alloc: Global, t: &[Tok], at: usize, room: u32) -> Result<Found<Option<Box<Args>>>, Memory>
+fn super_args(
+    alloc: Global,
+    t: &[Tok],
+    at: usize,
+    room: u32,
+) -> Result<Found<Option<Box<Args>>>, Memory>
     requires { at ≤ length t.now }
     ensures { IfOk result (IsFound super_args_found super_args_found_depth room t.now at (optional (args (parsers room)) (drop at t.now))) }
 {

@@ -8,4 +8,4 @@ use Rattle.rf_jexpr.proofs.AnswerLemmas.{args_longest, longest_found}
 use Rattle.rf_jexpr.proofs.longest.args.Goals as goal
 
 pub returns-clause-longest : goal.returns-clause-longest
-returns-clause-longest c = longest_found ArgsFit args_yield args_depth c.args.room (args (parsers c.args.room)) (args_longest c.args.room) c.args.t.now c.args.at args_shown c.args-2.result c.args-2.ensures
+returns-clause-longest c = longest_found ArgsFit args_yield args_depth c.args.room (args (parsers c.args.room)) (args_longest c.args.room) c.args.t.now c.args.at args_shown c.args_alone.result c.args_alone.ensures
