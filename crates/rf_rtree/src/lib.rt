@@ -1,6 +1,7 @@
 //! Programs of the rule language, and what it means that one has no kind fault.
 #![tactic(auto)]
 
+mod copies;
 mod faults;
 mod forms;
 mod items;
@@ -8,6 +9,7 @@ mod language;
 mod tables;
 mod words;
 
+pub use copies::Copied;
 pub use faults::KindFault;
 pub use forms::{Comp, Quant, RForm, RTerm};
 pub use items::{Item, RuleProg};
