@@ -2,9 +2,8 @@
 
 ghost use Rattle.std.specs.Prelude.{◌↔◌, IsTrue, IfSome, option_map};
 ghost use Rattle.rf_jtree.specs.ExprFits.{ExprFits};
-ghost use Rattle.rf_jtree.specs.ExprShown.{expr_shown};
 ghost use Rattle.rf_jtree.specs.StmtFits.{MessageFits, StmtFits, BlockFits, StmtsFit, OtherFits, GroupFits, GroupsFit, CatchFits, CatchesFit, LastFits};
-ghost use Rattle.rf_jtree.specs.StmtShown.{message_shown, stmt_shown, block_shown, stmts_shown, other_shown, group_shown, groups_shown, catch_shown, catches_shown, last_shown};
+ghost use Rattle.rf_jtree.specs.StmtShown.{optional_expr_shown, message_shown, stmt_shown, block_shown, stmts_shown, other_shown, group_shown, groups_shown, catch_shown, catches_shown, last_shown};
 
 use crate::expr_checks::{expr_fits, exprs_fit};
 use crate::name_checks::{are_braces, name_fits, type_fits};
@@ -18,8 +17,8 @@ use rf_jtree::keyword_names::{ASSERT, ELSE, FINALLY, RETURN, SYNCHRONIZED, THROW
 use rf_jtree::operator_names::{COLON, SEMICOLON};
 use rf_jtree::{Block, Catch, Expr, Group, Stmt, Tok};
 
-fn expr_fits_or_none(expr: &Option<Expr>) -> bool
-    ensures { IsTrue result ↔ IfSome (option_map expr_shown expr.now) ExprFits }
+fn expr_fits_or_none(expr: &Option<Box<Expr>>) -> bool
+    ensures { IsTrue result ↔ IfSome (optional_expr_shown expr.now) ExprFits }
 {
     match expr {
         None => true,
@@ -27,7 +26,7 @@ fn expr_fits_or_none(expr: &Option<Expr>) -> bool
     }
 }
 
-fn message_fits_or_none(message: &Option<(Tok, Expr)>) -> bool
+fn message_fits_or_none(message: &Option<(Tok, Box<Expr>)>) -> bool
     ensures { IsTrue result ↔ IfSome (option_map message_shown message.now) MessageFits }
 {
     match message {
@@ -47,91 +46,47 @@ pub fn stmt_fits(stmt: &Stmt) -> bool
         Stmt::Local(local, semi) => local_fits(local) && is_op(semi, SEMICOLON),
         Stmt::Label(id, colon, body) => is_label(id, colon, body) && stmt_fits(body),
         Stmt::Value(value, semi) => is_value(value, semi) && expr_fits(value),
-        Stmt::If {
-            word,
-            left,
-            test,
-            right,
-            then,
-            other,
-        } => {
-            is_if(word, left, right, then, other)
-                && expr_fits(test)
+        Stmt::If { head, then, other } => {
+            is_if(head, then, other)
+                && expr_fits(&head.value)
                 && stmt_fits(then)
                 && other_fits(other)
         }
-        Stmt::While {
-            word,
-            left,
-            test,
-            right,
-            body,
-        } => is_while(word, left, right, body) && expr_fits(test) && stmt_fits(body),
+        Stmt::While { head, body } => {
+            is_while(head, body) && expr_fits(&head.value) && stmt_fits(body)
+        }
         Stmt::Do {
             word,
             body,
             until,
-            left,
-            test,
-            right,
             semi,
-        } => is_do(word, body, until, left, right, semi) && stmt_fits(body) && expr_fits(test),
-        Stmt::For {
-            word,
-            left,
-            first,
-            semi1,
-            test,
-            semi2,
-            last,
-            right,
-            body,
-        } => {
-            is_for(word, left, semi1, semi2, last, right, body)
-                && first_fits(first)
-                && expr_fits_or_none(test)
-                && exprs_fit(last)
+        } => is_do(word, body, until, semi) && stmt_fits(body) && expr_fits(&until.value),
+        Stmt::For { head, body } => {
+            is_for(head, body)
+                && first_fits(&head.first)
+                && expr_fits_or_none(&head.test)
+                && exprs_fit(&head.last)
                 && stmt_fits(body)
         }
-        Stmt::Each {
-            word,
-            left,
-            mods,
-            sort,
-            id,
-            colon,
-            over,
-            right,
-            body,
-        } => {
-            is_each(word, left, mods, id, colon, right, body)
-                && type_fits(sort)
-                && expr_fits(over)
-                && stmt_fits(body)
+        Stmt::Each { head, body } => {
+            is_each(head, body) && type_fits(&head.sort) && expr_fits(&head.over) && stmt_fits(body)
         }
         Stmt::Switch {
-            word,
-            left,
-            on,
-            right,
+            head,
             brace,
             groups,
             end,
         } => {
-            is_switch(word, left, right, brace, end)
-                && expr_fits(on)
-                && groups_fit(groups.as_slice())
+            is_switch(head, brace, end) && expr_fits(&head.value) && groups_fit(groups.as_slice())
         }
         Stmt::Jump(word, label, semi) => is_jump(word, label, semi),
         Stmt::Return(word, value, semi) => is_exit(RETURN, word, semi) && expr_fits_or_none(value),
         Stmt::Throw(word, value, semi) => is_exit(THROW, word, semi) && expr_fits(value),
-        Stmt::Sync {
-            word,
-            left,
-            on,
-            right,
-            body,
-        } => is_head(SYNCHRONIZED, word, left, right) && expr_fits(on) && block_fits(body),
+        Stmt::Sync { head, body } => {
+            is_head(SYNCHRONIZED, &head.word, &head.left, &head.right)
+                && expr_fits(&head.value)
+                && block_fits(body)
+        }
         Stmt::Assert(word, test, message, semi) => {
             is_exit(ASSERT, word, semi) && expr_fits(test) && message_fits_or_none(message)
         }
@@ -221,7 +176,7 @@ fn catches_fit(catches: &[Catch]) -> bool
 }
 
 #[cycle(stmt)]
-fn last_fits(last: &Option<(Tok, Block)>) -> bool
+fn last_fits(last: &Option<(Tok, Box<Block>)>) -> bool
     ensures { IsTrue result ↔ LastFits (last_shown last.now) }
 {
     match last {

@@ -1,9 +1,9 @@
-ghost use Rattle.std.specs.Prelude.{◌↔◌, ◌⊎◌, IsTrue, IfSome, option_map};
+ghost use Rattle.std.specs.Prelude.{◌↔◌, ◌⊎◌, IsTrue, IfSome};
 ghost use Rattle.rf_jtree.specs.ExprShown.{expr_shown, exprs_shown};
 ghost use Rattle.rf_jtree.specs.Kinds.{IsKey, IsIdent};
 ghost use Rattle.rf_jtree.specs.NameShown.{mods_shown};
 ghost use Rattle.rf_jtree.specs.StmtFits.{IsHead, IsLabel, IsValue, IsIf, IsWhile, IsDo, IsFor, IsEach, IsSwitch, IsGroupWord, IsJump, IsExit, IsCatch, IsTry};
-ghost use Rattle.rf_jtree.specs.StmtShown.{stmt_shown, other_shown, catches_shown, last_shown};
+ghost use Rattle.rf_jtree.specs.StmtShown.{optional_expr_shown, stmt_shown, other_shown, catches_shown, last_shown};
 
 use crate::name_checks::{are_braces, are_parens};
 use crate::variable_checks::variable_mods_fit;
@@ -15,8 +15,7 @@ use rf_jtree::keyword_names::{
     BREAK, CASE, CATCH, CONTINUE, DEFAULT, DO, FINAL, FOR, IF, SWITCH, TRY, WHILE,
 };
 use rf_jtree::operator_names::{COLON, SEMICOLON};
-use rf_jtree::{Block, Catch, Expr, Kw, Many, Mod, Stmt, Tok};
-use rf_text::List;
+use rf_jtree::{Block, Catch, EachHead, Expr, ForHead, Head, Kw, Stmt, Tok};
 
 pub(crate) fn is_head(key: Kw, word: &Tok, left: &Tok, right: &Tok) -> bool
     ensures { IsTrue result ↔ IsHead key word.now left.now right.now }
@@ -36,84 +35,57 @@ pub(crate) fn is_value(value: &Expr, semi: &Tok) -> bool
     is_statement_expr(value) && is_op(semi, SEMICOLON)
 }
 
-pub(crate) fn is_if(
-    word: &Tok,
-    left: &Tok,
-    right: &Tok,
-    then: &Stmt,
-    other: &Option<(Tok, Box<Stmt>)>,
-) -> bool
-    ensures { IsTrue result ↔ IsIf word.now left.now right.now (stmt_shown then.now) (other_shown other.now) }
+pub(crate) fn is_if(head: &Head, then: &Stmt, other: &Option<(Tok, Box<Stmt>)>) -> bool
+    ensures { IsTrue result ↔ IsIf head.now.word head.now.left head.now.right (stmt_shown then.now) (other_shown other.now) }
 {
-    is_head(IF, word, left, right) && is_nearest_if(then, other) && is_no_local(then)
+    is_head(IF, &head.word, &head.left, &head.right)
+        && is_nearest_if(then, other)
+        && is_no_local(then)
 }
 
-pub(crate) fn is_while(word: &Tok, left: &Tok, right: &Tok, body: &Stmt) -> bool
-    ensures { IsTrue result ↔ IsWhile word.now left.now right.now (stmt_shown body.now) }
+pub(crate) fn is_while(head: &Head, body: &Stmt) -> bool
+    ensures { IsTrue result ↔ IsWhile head.now.word head.now.left head.now.right (stmt_shown body.now) }
 {
-    is_head(WHILE, word, left, right) && is_no_local(body)
+    is_head(WHILE, &head.word, &head.left, &head.right) && is_no_local(body)
 }
 
-pub(crate) fn is_do(
-    word: &Tok,
-    body: &Stmt,
-    until: &Tok,
-    left: &Tok,
-    right: &Tok,
-    semi: &Tok,
-) -> bool
-    ensures { IsTrue result ↔ IsDo word.now (stmt_shown body.now) until.now left.now right.now semi.now }
+pub(crate) fn is_do(word: &Tok, body: &Stmt, until: &Head, semi: &Tok) -> bool
+    ensures { IsTrue result ↔ IsDo word.now (stmt_shown body.now) until.now.word until.now.left until.now.right semi.now }
 {
     is_key(word, DO)
         && is_no_local(body)
-        && is_head(WHILE, until, left, right)
+        && is_head(WHILE, &until.word, &until.left, &until.right)
         && is_op(semi, SEMICOLON)
 }
 
-pub(crate) fn is_for(
-    word: &Tok,
-    left: &Tok,
-    semi1: &Tok,
-    semi2: &Tok,
-    last: &Option<Many<Expr>>,
-    right: &Tok,
-    body: &Stmt,
-) -> bool
-    ensures { IsTrue result ↔ IsFor word.now left.now semi1.now semi2.now (exprs_shown last.now) right.now (stmt_shown body.now) }
+pub(crate) fn is_for(head: &ForHead, body: &Stmt) -> bool
+    ensures { IsTrue result ↔ IsFor head.now.word head.now.left head.now.semi1 head.now.semi2 (exprs_shown head.now.last) head.now.right (stmt_shown body.now) }
 {
-    is_head(FOR, word, left, right)
-        && is_op(semi1, SEMICOLON)
-        && is_op(semi2, SEMICOLON)
-        && are_statement_exprs(last)
+    is_head(FOR, &head.word, &head.left, &head.right)
+        && is_op(&head.semi1, SEMICOLON)
+        && is_op(&head.semi2, SEMICOLON)
+        && are_statement_exprs(&head.last)
         && is_no_local(body)
 }
 
-pub(crate) fn is_each(
-    word: &Tok,
-    left: &Tok,
-    mods: &List<Mod>,
-    id: &Tok,
-    colon: &Tok,
-    right: &Tok,
-    body: &Stmt,
-) -> bool
-    ensures { IsTrue result ↔ IsEach word.now left.now (mods_shown mods.now) id.now colon.now right.now (stmt_shown body.now) }
+pub(crate) fn is_each(head: &EachHead, body: &Stmt) -> bool
+    ensures { IsTrue result ↔ IsEach head.now.word head.now.left (mods_shown head.now.mods) head.now.id head.now.colon head.now.right (stmt_shown body.now) }
 {
-    is_head(FOR, word, left, right)
-        && variable_mods_fit(mods)
-        && is_ident(id)
-        && is_op(colon, COLON)
+    is_head(FOR, &head.word, &head.left, &head.right)
+        && variable_mods_fit(&head.mods)
+        && is_ident(&head.id)
+        && is_op(&head.colon, COLON)
         && is_no_local(body)
 }
 
-pub(crate) fn is_switch(word: &Tok, left: &Tok, right: &Tok, brace: &Tok, end: &Tok) -> bool
-    ensures { IsTrue result ↔ IsSwitch word.now left.now right.now brace.now end.now }
+pub(crate) fn is_switch(head: &Head, brace: &Tok, end: &Tok) -> bool
+    ensures { IsTrue result ↔ IsSwitch head.now.word head.now.left head.now.right brace.now end.now }
 {
-    is_head(SWITCH, word, left, right) && are_braces(brace, end)
+    is_head(SWITCH, &head.word, &head.left, &head.right) && are_braces(brace, end)
 }
 
-pub(crate) fn is_group_word(word: &Tok, value: &Option<Expr>) -> bool
-    ensures { IsTrue result ↔ IsGroupWord word.now (option_map expr_shown value.now) }
+pub(crate) fn is_group_word(word: &Tok, value: &Option<Box<Expr>>) -> bool
+    ensures { IsTrue result ↔ IsGroupWord word.now (optional_expr_shown value.now) }
 {
     match value {
         None => is_key(word, DEFAULT),
@@ -163,7 +135,7 @@ pub(crate) fn is_catch(word: &Tok, left: &Tok, fixed: &Option<Tok>, id: &Tok, ri
     is_head(CATCH, word, left, right) && is_key_or_none(FINAL, fixed) && is_ident(id)
 }
 
-pub(crate) fn is_try(word: &Tok, catches: &[Catch], last: &Option<(Tok, Block)>) -> bool
+pub(crate) fn is_try(word: &Tok, catches: &[Catch], last: &Option<(Tok, Box<Block>)>) -> bool
     ensures { IsTrue result ↔ IsTry word.now (catches_shown catches.now) (last_shown last.now) }
 {
     is_key(word, TRY) && has_catch_or_last(catches, last)

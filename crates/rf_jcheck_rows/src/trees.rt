@@ -1,8 +1,8 @@
 //! Trees made by hand, for the tests: `t.binary(t.name("a"), "+", t.name("b"))`.
 
 use rf_jtree::{
-    Args, Block, Braces, Dims, Dotted, Expr, ForFirst, Local, Many, Mod, Name, Stmt, Tok, TokKind,
-    TypeBase, TypeUse, Var, keyword, operator,
+    Args, Block, Braces, Dims, Dotted, Expr, ForFirst, ForHead, Head, Local, Many, Mod, Name, Stmt,
+    Tok, TokKind, TypeBase, TypeUse, Var, keyword, operator,
 };
 use rf_text::{Bytes, List};
 use std::process::Abort;
@@ -220,15 +220,22 @@ impl<'a, R: Abort + AllocGlobal> Trees<'a, R> {
     }
 
     pub fn run(&self, value: Box<Expr>) -> Box<Stmt> {
-        self.boxed(Stmt::Value(Box::into_inner(value), self.tok(";")))
+        self.boxed(Stmt::Value(value, self.tok(";")))
+    }
+
+    /// `word (a)`
+    fn head(&self, word: &str) -> Box<Head> {
+        self.boxed(Head {
+            word: self.tok(word),
+            left: self.tok("("),
+            value: self.boxed(Expr::Name(self.id("a"))),
+            right: self.tok(")"),
+        })
     }
 
     pub fn if_then(&self, then: Box<Stmt>, other: Option<(Tok, Box<Stmt>)>) -> Box<Stmt> {
         self.boxed(Stmt::If {
-            word: self.tok("if"),
-            left: self.tok("("),
-            test: Expr::Name(self.id("a")),
-            right: self.tok(")"),
+            head: self.head("if"),
             then,
             other,
         })
@@ -240,25 +247,25 @@ impl<'a, R: Abort + AllocGlobal> Trees<'a, R> {
 
     pub fn while_do(&self, body: Box<Stmt>) -> Box<Stmt> {
         self.boxed(Stmt::While {
-            word: self.tok("while"),
-            left: self.tok("("),
-            test: Expr::Name(self.id("a")),
-            right: self.tok(")"),
+            head: self.head("while"),
             body,
         })
     }
 
     /// `for (first; a; last) ;`
     pub fn for_with(&self, first: ForFirst, last: Option<Many<Expr>>) -> Box<Stmt> {
-        self.boxed(Stmt::For {
+        let head = ForHead {
             word: self.tok("for"),
             left: self.tok("("),
             first,
             semi1: self.tok(";"),
-            test: Some(Expr::Name(self.id("a"))),
+            test: Some(self.boxed(Expr::Name(self.id("a")))),
             semi2: self.tok(";"),
             last,
             right: self.tok(")"),
+        };
+        self.boxed(Stmt::For {
+            head: self.boxed(head),
             body: self.empty(),
         })
     }
@@ -282,7 +289,7 @@ impl<'a, R: Abort + AllocGlobal> Trees<'a, R> {
             sort: self.prim(self.no_dims()),
             vars: self.only(var),
         };
-        self.boxed(Stmt::Local(local, self.tok(";")))
+        self.boxed(Stmt::Local(self.boxed(local), self.tok(";")))
     }
 
     pub fn block(&self) -> Block {
@@ -293,10 +300,10 @@ impl<'a, R: Abort + AllocGlobal> Trees<'a, R> {
         }
     }
 
-    pub fn try_with(&self, last: Option<(Tok, Block)>) -> Box<Stmt> {
+    pub fn try_with(&self, last: Option<(Tok, Box<Block>)>) -> Box<Stmt> {
         self.boxed(Stmt::Try {
             word: self.tok("try"),
-            body: self.block(),
+            body: self.boxed(self.block()),
             catches: self.none(),
             last,
         })

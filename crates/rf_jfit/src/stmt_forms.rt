@@ -120,7 +120,7 @@ pub fn is_nearest_if(then: &Stmt, other: &Option<(Tok, Box<Stmt>)>) -> bool
 }
 
 /// Whether a `try` has one of its other parts.
-pub fn has_catch_or_last(catches: &[Catch], last: &Option<(Tok, Block)>) -> bool
+pub fn has_catch_or_last(catches: &[Catch], last: &Option<(Tok, Box<Block>)>) -> bool
     ensures { IsTrue result ↔ HasCatchOrLast (catches_shown catches.now) (last_shown last.now) }
 {
     match catches {

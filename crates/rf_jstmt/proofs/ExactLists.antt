@@ -29,6 +29,7 @@ use Rattle.rf_jstmt.proofs.ExactForms.{IsReadWhere}
 use Rattle.rf_jstmt.proofs.ExactMods.{variable_mods-exact, type_no_mod}
 use Rattle.rf_jstmt.proofs.ExactParts.{AreExactStmts, stmts-exact, block-exact, expr-exact, head-exact, semi_ends_expr, paren_ends_expr, optional_expr-exact, statement_exprs-exact}
 use Rattle.rf_jstmt.proofs.ExactVars.{AreExact, type-exact, declaration_begins, is_label, vars_no_label, local_vars-exact}
+use Rattle.rf_jstmt.proofs.WholeForms.{whole_basic, whole_each, whole_catch, basic_for-whole, each_for-whole, catch_part-whole}
 use Rattle.rf_jstmt.proofs.Over.{begins_neither, brace_ends, case_ends, default_ends}
 use Rattle.rf_jstmt.proofs.SoundLists.{GoodGroup, GoodCatch}
 use Rattle.rf_jstmt.proofs.StmtFirst.{local_tokens}
@@ -136,9 +137,10 @@ module _ (m : ℕ) (p : Parsers) (s : StmtParsers) (exprs : AreExact m p) (stmts
   basic_for-exact : (word left : Tok) (first : ForFirstTree) (semi1 : Tok) (test : Option ExprTree) (semi2 : Tok) (end : ExprsTree) (right : Tok) (body : StmtTree) (rest : List Tok)
       → IsFor word left semi1 semi2 end right body → IfSome test ExprFits → ExprsFit end → StmtFits body → AreShallow test end body → Over body rest
       → basic_for p s word left first (semi1 ∷ (option_yield expr_yield test ++ semi2 ∷ (exprs_yield end ++ right ∷ (stmt_yield body ++ rest)))) ≡ Some (For word left first semi1 test semi2 end right body, rest)
-  unfolding basic_for
+  unfolding whole_basic
   basic_for-exact word left first semi1 test semi2 end right body rest is test_fits end_fits body_fits shallow over =
-      bind-Some _ _ _ _ (token-at (is_op SEMICOLON) semi1 _ (IsOp-is_op SEMICOLON semi1 is.semi1_is))
+      basic_for-whole p s word left first _
+      ∙ bind-Some _ _ _ _ (token-at (is_op SEMICOLON) semi1 _ (IsOp-is_op SEMICOLON semi1 is.semi1_is))
       (bind-Some _ _ _ _ (optional_expr-exact m p exprs test semi2 _ (record { fits = test_fits; shallow = shallow.of_test }) (semi_ends_expr semi2 _ is.semi2_is))
       (bind-Some _ _ _ _ (token-at (is_op SEMICOLON) semi2 _ (IsOp-is_op SEMICOLON semi2 is.semi2_is))
       (bind-Some _ _ _ _ (statement_exprs-exact m p exprs end right _ (record { fits = end_fits; statements = is.last_statements; shallow = shallow.of_last }) (paren_ends_expr right _ is.head.parens.1))
@@ -174,7 +176,7 @@ module _ (m : ℕ) (p : Parsers) (s : StmtParsers) (exprs : AreExact m p) (stmts
       (record { of_test = omega arith; of_last = omega arith; of_body = omega arith }) over))))))
 
   pub each_for-exact : (word left : Tok) (mods : List ModTree) (sort : TypeUseTree) (id colon : Tok) (over_expr : ExprTree) (right : Tok) (body : StmtTree) → IsReadWhere m p s exprs stmts (Each word left mods sort id colon over_expr right body)
-  unfolding for_stmt local_for each_for
+  unfolding for_stmt local_for whole_each
   each_for-exact word left mods sort id colon over_expr right body rest fit shallow over =
       reads-same (stmt p s) (each_tokens word left (mods_yield mods) (type_yield sort) id colon (expr_yield over_expr) right (stmt_yield body) rest)
       (to_for p s word _ fit.0.head.word_is
@@ -184,6 +186,7 @@ module _ (m : ℕ) (p : Parsers) (s : StmtParsers) (exprs : AreExact m p) (stmts
       ∙ bind-Some _ _ _ _ (variable_mods-exact mods _ fit.0.mods_fit (type_no_mod sort _ fit.1))
       (bind-Some _ _ _ _ (type-exact sort id _ fit.1 fit.0.id_is)
       (if-true _ _ _ (is_label id colon _ fit.0.id_is fit.0.colon_is)
+      ∙ each_for-whole p s word left mods sort _
       ∙ bind-Some _ _ _ _ (token-at is_ident id _ (IsIdent-is_ident id fit.0.id_is))
       (bind-Some _ _ _ _ (token-at (is_op COLON) colon _ (IsOp-is_op COLON colon fit.0.colon_is))
       (bind-Some _ _ _ _ (expr-exact m p exprs over_expr (right ∷ _) fit.2 (omega arith) (stops_paren right _ fit.0.head.parens.1))
@@ -256,10 +259,11 @@ module _ (m : ℕ) (p : Parsers) (s : StmtParsers) (exprs : AreExact m p) (stmts
   fixed-exact (Some tok) sort rest fit sort_fits = optional-Some _ _ _ _ (token-at (is_key FINAL) tok _ (IsKey-is_key FINAL tok fit))
 
   catch_part-exact : IsExact (GoodCatch m) Anything catch_yield (catch_part s)
-  unfolding catch_part
+  unfolding whole_catch
   catch_part-exact (Catch word left fixed sort id right body) rest good stop =
       reads-same (catch_part s) (catch_tokens word left (option_yield tok_yield fixed) (name_yield sort) id right (block_yield body) rest)
-      (bind-Some _ _ _ _ (token-at (is_key CATCH) word _ (IsKey-is_key CATCH word good.fits.0.head.word_is))
+      (catch_part-whole s _
+      ∙ bind-Some _ _ _ _ (token-at (is_key CATCH) word _ (IsKey-is_key CATCH word good.fits.0.head.word_is))
       (bind-Some _ _ _ _ (token-at (is_op LEFT_PAREN) left _ (IsOp-is_op LEFT_PAREN left good.fits.0.head.parens.0))
       (bind-Some _ _ _ _ (fixed-exact fixed sort _ good.fits.0.fixed_is good.fits.1)
       (bind-Some _ _ _ _ (name-exact sort (id ∷ _) good.fits.1 (ident_no_dot id _ good.fits.0.id_is))
@@ -271,8 +275,8 @@ module _ (m : ℕ) (p : Parsers) (s : StmtParsers) (exprs : AreExact m p) (stmts
   catch_some (Catch word left fixed sort id right body) good = omega arith
 
   no_catch : (rest : List Tok) → begins (is_key CATCH) rest ≡ false → catch_part s rest ≡ None
-  unfolding catch_part
-  no_catch rest none = bind-None _ _ (token-other (is_key CATCH) rest none)
+  unfolding whole_catch
+  no_catch rest none = catch_part-whole s rest ∙ bind-None _ _ (token-other (is_key CATCH) rest none)
 
   catches-exact : (catches : CatchesTree) (rest : List Tok) → CatchesFit catches → catches_depth catches ≤ m → begins (is_key CATCH) rest ≡ false → many (catch_part s) (catches_yield catches ++ rest) ≡ Some (catches_list catches, rest)
   catches-exact catches rest fit shallow none =

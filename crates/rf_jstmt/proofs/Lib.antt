@@ -25,3 +25,4 @@ pub mod ValueLemmas
 mod BlockAnswers
 mod ListShows
 mod StmtRooms
+pub mod WholeForms

@@ -1,5 +1,5 @@
 -- What the readers of the statements with lists read fits and is no deeper than the room.
-use Rattle.std.proofs.Common.{◌≡◌, ℕ, suc, ◌≤◌, List, [], ◌∷◌, ◌++◌, Some, None, refl, ap, ◌∙◌, arith}
+use Rattle.std.proofs.Common.{◌≡◌, ℕ, suc, ◌≤◌, List, [], ◌∷◌, ◌++◌, Some, None, refl, sym, ap, ◌∙◌, arith}
 use Rattle.std.specs.List.{flat_map}
 use Rattle.rf_jtree.specs.declared.tokens.Tok.{Tok}
 use Rattle.rf_jtree.specs.declared.operator_names.TheConstants.{LEFT_PAREN, RIGHT_PAREN, LEFT_BRACE, RIGHT_BRACE, SEMICOLON, COLON}
@@ -22,6 +22,7 @@ use Rattle.rf_jexpr.proofs.Tools.{either_way, bound, of_bind, is_op-IsOp, is_key
 use Rattle.rf_jstmt.specs.StmtParts.{StmtParsers, stmts, block, optional_expr, statement_exprs}
 use Rattle.rf_jstmt.specs.StmtReads.{basic_for, each_for, local_for, for_stmt, case_group, default_group, group, switch_stmt, catch_part, last_part, last, has_part, try_stmt}
 use Rattle.rf_jstmt.specs.VarReads.{variable_mods, local_vars, begins_local, begins_label}
+use Rattle.rf_jstmt.proofs.WholeForms.{whole_basic, whole_each, whole_catch, basic_for-whole, each_for-whole, catch_part-whole}
 use Rattle.rf_jstmt.proofs.SoundMods.{variable_mods-sound}
 use Rattle.rf_jstmt.proofs.SoundParts.{GoodPart, AreSoundStmts, stmts-sound, block-sound, head_then, step_head, optional_expr-sound, statement_exprs-sound}
 use Rattle.rf_jstmt.proofs.SoundVars.{local_vars-sound}
@@ -81,9 +82,9 @@ module _ (m : ℕ) (p : Parsers) (s : StmtParsers) (sound : AreSound m p) (sound
 
   basic_for-sound : (word left : Tok) (first : ForFirstTree) → IsKey FOR word → IsOp LEFT_PAREN left → GoodFirst m first → (toks : List Tok) (y : StmtTree × List Tok) → basic_for p s word left first toks ≡ Some y
       → (whole mid : List Tok) → whole ≡ word ∷ left ∷ mid → mid ≡ first_yield first ++ toks → Read (GoodPart (suc m)) stmt_yield whole y.0 y.1
-  unfolding basic_for
+  unfolding whole_basic
   basic_for-sound word left first word_is left_is good toks y h whole mid takes_words takes_first =
-      step_tok (is_op SEMICOLON) toks _ y h (λ semi1 a k.
+      step_tok (is_op SEMICOLON) toks _ y (sym (basic_for-whole p s word left first toks) ∙ h) (λ semi1 a k.
       step_part _ _ (optional_expr p) semi1.1 _ y (optional_expr-sound m p sound) k (λ test b l.
       step_tok (is_op SEMICOLON) test.1 _ y l (λ semi2 c n.
       step_part _ _ (statement_exprs p) semi2.1 _ y (statement_exprs-sound m p sound) n (λ end d o.
@@ -111,9 +112,9 @@ module _ (m : ℕ) (p : Parsers) (s : StmtParsers) (sound : AreSound m p) (sound
 
   each_for-sound : (word left : Tok) (mods : List ModTree) (sort : TypeUseTree) → IsKey FOR word → IsOp LEFT_PAREN left → VariableModsFit mods → TypeFits sort → (toks : List Tok) (y : StmtTree × List Tok) → each_for p s word left mods sort toks ≡ Some y
       → (whole mid behind : List Tok) → whole ≡ word ∷ left ∷ mid → mid ≡ mods_yield mods ++ behind → behind ≡ type_yield sort ++ toks → Read (GoodPart (suc m)) stmt_yield whole y.0 y.1
-  unfolding each_for
+  unfolding whole_each
   each_for-sound word left mods sort word_is left_is mods_fit sort_fits toks y h whole mid behind takes_words takes_mods takes_sort =
-      step_tok is_ident toks _ y h (λ id a k.
+      step_tok is_ident toks _ y (sym (each_for-whole p s word left mods sort toks) ∙ h) (λ id a k.
       step_tok (is_op COLON) id.1 _ y k (λ colon b l.
       step_part _ _ p.expr colon.1 _ y sound.expr l (λ over c n.
       step_tok (is_op RIGHT_PAREN) over.1 _ y n (λ right d o.
@@ -209,9 +210,9 @@ module _ (m : ℕ) (p : Parsers) (s : StmtParsers) (sound : AreSound m p) (sound
   -- ---- `try`
 
   catch_part-sound : IsSound (GoodCatch m) catch_yield (catch_part s)
-  unfolding catch_part
+  unfolding whole_catch
   catch_part-sound toks y h =
-      step_tok (is_key CATCH) toks _ y h (λ word a k.
+      step_tok (is_key CATCH) toks _ y (sym (catch_part-whole s toks) ∙ h) (λ word a k.
       step_tok (is_op LEFT_PAREN) word.1 _ y k (λ left b l.
       step_part _ _ (optional (token (is_key FINAL))) left.1 _ y (optional-sound (IsKey FINAL) tok_yield (token (is_key FINAL)) (token-sound (IsKey FINAL) (is_key FINAL) (is_key-IsKey FINAL))) l (λ fixed c n.
       step_part _ _ name fixed.1 _ y name-sound n (λ sort d o.

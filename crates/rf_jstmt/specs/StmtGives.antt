@@ -1,22 +1,41 @@
 -- What the parts of statements show as, where they are not yet in one piece, and how deep lists of them are.
-use Rattle.std.specs.Prelude.{◌≡◌, ℕ, ◌≤◌, List, drop, length, map, Option, Some, None, Result, Ok, Err, option_map}
+use Rattle.std.specs.Prelude.{◌≡◌, ℕ, ◌+◌, ◌≤◌, List, drop, length, map, Option, Some, None, Result, Ok, Err}
+use Rattle.std.specs.declared.alloc.Global.{Global}
+use Rattle.std.specs.declared.boxed.Box.{Box}
 use Rattle.rf_jtree.specs.declared.stmts.Catch.{Catch}
 use Rattle.rf_jtree.specs.declared.stmts.ForFirst.{ForFirst}
 use Rattle.rf_jtree.specs.declared.stmts.Group.{Group}
 use Rattle.rf_jtree.specs.declared.stmts.Stmt.{Stmt}
 use Rattle.rf_jtree.specs.declared.tokens.Tok.{Tok}
-use Rattle.rf_jtree.specs.StmtShown.{catch_shown, catches_tree, first_shown, group_shown, groups_tree, stmt_shown, stmts_shown}
-use Rattle.rf_jtree.specs.StmtTrees.{CatchTree, GroupTree, StmtTree, catches_depth, first_depth, groups_depth}
+use Rattle.rf_jtree.specs.NameShown.{name_shown}
+use Rattle.rf_jtree.specs.StmtShown.{catch_shown, catches_tree, first_shown, group_shown, groups_tree, stmt_shown}
+use Rattle.rf_jtree.specs.StmtTrees.{BlockTree, CatchTree, GroupTree, StmtTree, catches_depth, first_depth, groups_depth, stmt_depth}
 use Rattle.rf_jtree.specs.StmtTrees as t
 use Rattle.rf_jexpr.specs.declared.found.Found.{Found}
 use Rattle.rf_jexpr.specs.declared.parse_err.ParseErr.{ParseErr}
 use Rattle.rf_jexpr.specs.declared.parse_err.ParseErr.TheVariants.{NoTree, Memory}
-use Rattle.rf_jexpr.specs.Made.{boxed_shown}
-use Rattle.rf_jstmt.specs.declared.branches.GroupParts.{GroupParts}
+use Rattle.rf_jexpr.specs.Descent.{parsers}
+use Rattle.rf_jexpr.specs.Gives.{GivesTree}
+use Rattle.rf_jexpr.specs.PartReads.{Parsers}
+use Rattle.rf_jexpr.specs.Reads.{Reads}
+use Rattle.rf_jstmt.specs.declared.tries.CatchHead.{CatchHead as CatchHeadParts}
+use Rattle.rf_jstmt.specs.StmtMade.{boxed_stmt_shown}
+use Rattle.rf_jstmt.specs.StmtParts.{CatchHead, StmtParsers}
+use Rattle.rf_jstmt.specs.StmtReads.{stmt_parsers}
 
--- the parts of a group of a `switch`
-abbrev pub group_parts_shown : GroupParts → GroupTree
-group_parts_shown parts = t.Group parts.word (option_map boxed_shown parts.value) parts.colon (stmts_shown parts.body)
+-- a catch clause up to its block, and with it
+abbrev pub catch_head_shown : CatchHeadParts → CatchHead
+catch_head_shown head = record {
+  word = head.word;
+  left = head.left;
+  fixed = head.fixed;
+  sort = name_shown head.name;
+  id = head.id;
+  right = head.right;
+}
+
+abbrev pub catch_tree : CatchHead → BlockTree → CatchTree
+catch_tree head body = t.Catch head.word head.left head.fixed head.sort head.id head.right body
 
 -- groups, and catch clauses
 abbrev pub groups_found : List Group → List GroupTree
@@ -40,3 +59,7 @@ abbrev pub GivesBlock : List Tok → Result (Stmt × ℕ) ParseErr → Option (S
 GivesBlock toks (Ok x) read = (read ≡ Some (stmt_shown x.0, drop x.1 toks)) × (x.1 ≤ length toks)
 GivesBlock toks (Err NoTree) read = read ≡ None
 GivesBlock toks (Err Memory) read = Unit {0}
+
+-- a statement by its reader, where `room` is left for its parts, so that the statement itself has one more
+abbrev pub GivesForm : List Tok → ℕ → ℕ → Result (Found (Box Stmt Global)) ParseErr → (Parsers → StmtParsers → Reads StmtTree) → Type 0
+GivesForm toks at room result read = GivesTree boxed_stmt_shown stmt_depth (room + 1) toks at result (read (parsers room) (stmt_parsers room) (drop at toks))

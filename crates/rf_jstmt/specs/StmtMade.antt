@@ -1,30 +1,81 @@
 -- What the code makes of parts that were read.
-use Rattle.std.specs.Prelude.{◌≡◌, ℕ, ◌≤◌, List, drop, length, Option, Some, None, Bool}
+use Rattle.std.specs.Prelude.{◌≡◌, ℕ, ◌≤◌, ◌++◌, max, List, [], ◌∷◌, drop, length, Option, Some, None, Result, Bool, IfOk}
 use Rattle.std.specs.declared.alloc.Global.{Global}
 use Rattle.std.specs.declared.boxed.Box.{Box}
 use Rattle.rf_jtree.specs.declared.exprs.Expr.{Expr}
 use Rattle.rf_jtree.specs.declared.exprs.Init.{Init}
+use Rattle.rf_jtree.specs.declared.stmts.EachHead.{EachHead as EachHeadParts}
+use Rattle.rf_jtree.specs.declared.stmts.ForHead.{ForHead as ForHeadParts}
+use Rattle.rf_jtree.specs.declared.stmts.Head.{Head as HeadParts}
 use Rattle.rf_jtree.specs.declared.stmts.Stmt.{Stmt}
 use Rattle.rf_jtree.specs.declared.stmts.Var.{Var}
 use Rattle.rf_jtree.specs.declared.tokens.Tok.{Tok}
-use Rattle.rf_jtree.specs.ExprTrees.{ExprTree, InitTree, expr_depth, init_depth}
-use Rattle.rf_jtree.specs.StmtShown.{stmt_shown, var_shown}
-use Rattle.rf_jtree.specs.StmtTrees.{StmtTree, VarTree, var_depth}
+use Rattle.rf_jtree.specs.ExprShown.{exprs_shown}
+use Rattle.rf_jtree.specs.ExprTrees.{ExprTree, InitTree, expr_depth, exprs_depth, init_depth}
+use Rattle.rf_jtree.specs.NameShown.{mods_shown, type_shown}
+use Rattle.rf_jtree.specs.NameTrees.{option_depth}
+use Rattle.rf_jtree.specs.StmtShown.{first_shown, optional_expr_shown, stmt_shown, var_shown}
+use Rattle.rf_jtree.specs.StmtTrees.{StmtTree, VarTree, first_depth, var_depth}
+use Rattle.rf_text.specs.declared.memory.Memory.{Memory}
+use Rattle.rf_jexpr.specs.declared.found.Found.{Found}
 use Rattle.rf_jexpr.specs.Made.{boxed_shown, boxed_init_shown}
 use Rattle.rf_jexpr.specs.Reads.{Reads, ◌>>=◌, token}
-use Rattle.rf_jstmt.specs.declared.heads.Head.{Head as HeadParts}
-use Rattle.rf_jstmt.specs.StmtParts.{Head}
+use Rattle.rf_jstmt.specs.StmtParts.{EachHead, ForHead, Head}
 
 -- what stands behind a pointer, shown
 abbrev pub boxed_stmt_shown : Box Stmt Global → StmtTree
 boxed_stmt_shown boxed = stmt_shown boxed.value
 
+-- a statement, where there is memory for it
+abbrev pub MakesStmt : Result (Box Stmt Global) Memory → StmtTree → Type 0
+MakesStmt result tree = IfOk result (λ found. boxed_stmt_shown found ≡ tree)
+
+-- one part more, from behind its pointer
+abbrev pub IsJoined : {A : Type 0} → Found (List A) → Found (Box A Global) → Found (List A) → Type 0
+IsJoined parts next x = (x.tree ≡ parts.tree ++ next.tree.value ∷ []) × (x.end ≡ next.end) × (x.depth ≡ max parts.depth next.depth)
+
 -- a keyword with an expression in parentheses behind it
-abbrev pub head_shown : HeadParts → Head
-head_shown head = record { word = head.word; left = head.left; value = boxed_shown head.value; right = head.right }
+abbrev pub head_shown : Box HeadParts Global → Head
+head_shown head = record {
+  word = head.value.word;
+  left = head.value.left;
+  value = boxed_shown head.value.value;
+  right = head.value.right;
+}
 
 abbrev pub head_depth : Head → ℕ
 head_depth head = expr_depth head.value
+
+-- what stands before the body of a `for`
+abbrev pub for_head_shown : Box ForHeadParts Global → ForHead
+for_head_shown head = record {
+  word = head.value.word;
+  left = head.value.left;
+  first = first_shown head.value.first;
+  semi1 = head.value.semi1;
+  test = optional_expr_shown head.value.test;
+  semi2 = head.value.semi2;
+  last = exprs_shown head.value.last;
+  right = head.value.right;
+}
+
+abbrev pub for_head_depth : ForHead → ℕ
+for_head_depth head = max (first_depth head.first) (max (option_depth expr_depth head.test) (exprs_depth head.last))
+
+abbrev pub each_head_shown : Box EachHeadParts Global → EachHead
+each_head_shown head = record {
+  word = head.value.word;
+  left = head.value.left;
+  mods = mods_shown head.value.mods;
+  sort = type_shown head.value.sort;
+  id = head.value.id;
+  colon = head.value.colon;
+  over = boxed_shown head.value.over;
+  right = head.value.right;
+}
+
+abbrev pub each_head_depth : EachHead → ℕ
+each_head_depth head = expr_depth head.over
 
 -- a variable behind a pointer
 abbrev pub boxed_var_shown : Box Var Global → VarTree

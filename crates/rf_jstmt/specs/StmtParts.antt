@@ -1,13 +1,16 @@
 -- The readers of statements in braces, and of the parts that several forms of statement have.
-use Rattle.std.specs.Prelude.{Option, Some, None, if◌then◌else◌}
+use Rattle.std.specs.Prelude.{List, Option, Some, None, if◌then◌else◌}
 use Rattle.rf_jtree.specs.declared.tokens.Tok.{Tok}
 use Rattle.rf_jtree.specs.declared.words.Kw.{Kw}
-use Rattle.rf_jtree.specs.declared.operator_names.TheConstants.{LEFT_PAREN, RIGHT_PAREN, LEFT_BRACE, RIGHT_BRACE, COMMA}
+use Rattle.rf_jtree.specs.declared.operator_names.TheConstants.{LEFT_PAREN, RIGHT_PAREN, LEFT_BRACE, RIGHT_BRACE, SEMICOLON, COLON, COMMA}
+use Rattle.rf_jtree.specs.declared.keyword_names.TheConstants.{CATCH, FINAL}
 use Rattle.rf_jtree.specs.ExprTrees.{ExprTree, ExprsTree, NoExprs}
+use Rattle.rf_jtree.specs.NameTrees.{NameTree, ModTree, TypeUseTree}
 use Rattle.rf_jtree.specs.StmtShown.{stmts_tree}
-use Rattle.rf_jtree.specs.StmtTrees.{StmtTree, BlockTree, Braces, StmtsTree}
+use Rattle.rf_jtree.specs.StmtTrees.{ForFirstTree, StmtTree, BlockTree, Braces, StmtsTree}
+use Rattle.rf_jexpr.specs.NameReads.{name}
 use Rattle.rf_jexpr.specs.PartReads.{Parsers, exprs_of}
-use Rattle.rf_jexpr.specs.Reads.{Reads, ◌>>=◌, when, is_op, is_key, begins, token, many, separated}
+use Rattle.rf_jexpr.specs.Reads.{Reads, ◌>>=◌, when, is_op, is_key, is_ident, begins, token, optional, many, separated}
 use Rattle.rf_jexpr.specs.Stops.{begins_expr}
 use Rattle.rf_jstmt.specs.StmtTests.{are_statement_exprs}
 
@@ -58,3 +61,61 @@ some_exprs p toks = do
 
 unfoldable pub statement_exprs : Parsers → Reads ExprsTree
 statement_exprs p toks = if begins begins_expr toks then some_exprs p toks else Some (NoExprs, toks)
+
+-- a basic `for` up to its body, read from behind its first part (JLS 14.14.1)
+pub record ForHead : Type 0 where
+  pub word : Tok
+  pub left : Tok
+  pub first : ForFirstTree
+  pub semi1 : Tok
+  pub test : Option ExprTree
+  pub semi2 : Tok
+  pub last : ExprsTree
+  pub right : Tok
+
+unfoldable pub for_head : Parsers → Tok → Tok → ForFirstTree → Reads ForHead
+for_head p word left first toks = do
+  semi1 ← token (is_op SEMICOLON) toks
+  test ← optional_expr p semi1.1
+  semi2 ← token (is_op SEMICOLON) test.1
+  last ← statement_exprs p semi2.1
+  right ← token (is_op RIGHT_PAREN) last.1
+  Some (record { word = word; left = left; first = first; semi1 = semi1.0; test = test.0; semi2 = semi2.0; last = last.0; right = right.0 }, right.1)
+
+-- a `for` over what an expression gives, up to its body, read from behind its type (JLS 14.14.2)
+pub record EachHead : Type 0 where
+  pub word : Tok
+  pub left : Tok
+  pub mods : List ModTree
+  pub sort : TypeUseTree
+  pub id : Tok
+  pub colon : Tok
+  pub over : ExprTree
+  pub right : Tok
+
+unfoldable pub each_head : Parsers → Tok → Tok → List ModTree → TypeUseTree → Reads EachHead
+each_head p word left mods sort toks = do
+  id ← token is_ident toks
+  colon ← token (is_op COLON) id.1
+  over ← p.expr colon.1
+  right ← token (is_op RIGHT_PAREN) over.1
+  Some (record { word = word; left = left; mods = mods; sort = sort; id = id.0; colon = colon.0; over = over.0; right = right.0 }, right.1)
+
+-- a catch clause up to its block (JLS 14.20)
+pub record CatchHead : Type 0 where
+  pub word : Tok
+  pub left : Tok
+  pub fixed : Option Tok
+  pub sort : NameTree
+  pub id : Tok
+  pub right : Tok
+
+unfoldable pub catch_head : Reads CatchHead
+catch_head toks = do
+  word ← token (is_key CATCH) toks
+  left ← token (is_op LEFT_PAREN) word.1
+  fixed ← optional (token (is_key FINAL)) left.1
+  sort ← name fixed.1
+  id ← token is_ident sort.1
+  right ← token (is_op RIGHT_PAREN) id.1
+  Some (record { word = word.0; left = left.0; fixed = fixed.0; sort = sort.0; id = id.0; right = right.0 }, right.1)

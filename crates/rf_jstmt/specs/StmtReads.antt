@@ -2,18 +2,18 @@
 use Rattle.std.specs.Prelude.{ℕ, zero, suc, List, Some, None, Bool, true, false, not, ◌||◌, if◌then◌else◌}
 use Rattle.rf_jtree.specs.declared.tokens.Tok.{Tok}
 use Rattle.rf_jtree.specs.declared.operator_names.TheConstants.{LEFT_PAREN, RIGHT_PAREN, LEFT_BRACE, RIGHT_BRACE, SEMICOLON, COLON}
-use Rattle.rf_jtree.specs.declared.keyword_names.TheConstants.{ASSERT, BREAK, CASE, CATCH, CONTINUE, DEFAULT, DO, ELSE, FINAL, FINALLY, FOR, IF, RETURN, SWITCH, SYNCHRONIZED, THROW, TRY, WHILE}
+use Rattle.rf_jtree.specs.declared.keyword_names.TheConstants.{ASSERT, BREAK, CASE, CONTINUE, DEFAULT, DO, ELSE, FINALLY, FOR, IF, RETURN, SWITCH, SYNCHRONIZED, THROW, TRY, WHILE}
 use Rattle.rf_jtree.specs.NameTrees.{ModTree, TypeUseTree}
 use Rattle.rf_jtree.specs.StmtFits.{ends_open}
 use Rattle.rf_jtree.specs.StmtShown.{groups_tree, catches_tree}
 use Rattle.rf_jtree.specs.StmtTrees.{ForFirstTree, StmtTree, Block, Empty, Label, Value, If, While, Do, For, Each, Switch, Jump, Return, Throw, Sync, Assert, Try}
 use Rattle.rf_jtree.specs.StmtTrees.{OtherTree, NoOther, Other, GroupTree, Group, CatchTree, Catch, CatchesTree, NoCatches, Catches, LastTree, NoLast, Last}
 use Rattle.rf_jexpr.specs.Descent.{parsers}
-use Rattle.rf_jexpr.specs.NameReads.{name, type_use}
+use Rattle.rf_jexpr.specs.NameReads.{type_use}
 use Rattle.rf_jexpr.specs.PartReads.{Parsers}
 use Rattle.rf_jexpr.specs.Reads.{Reads, ◌>>=◌, when, is_op, is_key, is_ident, begins, token, optional, many, behind}
 use Rattle.rf_jexpr.specs.Stops.{begins_expr}
-use Rattle.rf_jstmt.specs.StmtParts.{StmtParsers, stmts, block, head, optional_expr, statement_exprs}
+use Rattle.rf_jstmt.specs.StmtParts.{StmtParsers, stmts, block, head, statement_exprs, optional_expr, for_head, each_head, catch_head}
 use Rattle.rf_jstmt.specs.StmtTests.{is_statement_expr}
 use Rattle.rf_jstmt.specs.VarReads.{variable_mods, local_vars, local, begins_local, begins_label}
 
@@ -82,23 +82,16 @@ do_stmt p s toks = do
 -- `; test; last) body` of a `for` (JLS 14.14.1)
 unfoldable pub basic_for : Parsers → StmtParsers → Tok → Tok → ForFirstTree → Reads StmtTree
 basic_for p s word left first toks = do
-  semi1 ← token (is_op SEMICOLON) toks
-  test ← optional_expr p semi1.1
-  semi2 ← token (is_op SEMICOLON) test.1
-  last ← statement_exprs p semi2.1
-  right ← token (is_op RIGHT_PAREN) last.1
-  body ← s.stmt right.1
-  Some (For word left first semi1.0 test.0 semi2.0 last.0 right.0 body.0, body.1)
+  head ← for_head p word left first toks
+  body ← s.stmt head.1
+  Some (For head.0.word head.0.left head.0.first head.0.semi1 head.0.test head.0.semi2 head.0.last head.0.right body.0, body.1)
 
 -- `x : over) body` of a `for` (JLS 14.14.2)
 unfoldable pub each_for : Parsers → StmtParsers → Tok → Tok → List ModTree → TypeUseTree → Reads StmtTree
 each_for p s word left mods sort toks = do
-  id ← token is_ident toks
-  colon ← token (is_op COLON) id.1
-  over ← p.expr colon.1
-  right ← token (is_op RIGHT_PAREN) over.1
-  body ← s.stmt right.1
-  Some (Each word left mods sort id.0 colon.0 over.0 right.0 body.0, body.1)
+  head ← each_head p word left mods sort toks
+  body ← s.stmt head.1
+  Some (Each head.0.word head.0.left head.0.mods head.0.sort head.0.id head.0.colon head.0.over head.0.right body.0, body.1)
 
 -- a `for` with a declaration: of one variable before `:`, or of any number
 unfoldable pub local_for : Parsers → StmtParsers → Tok → Tok → Reads StmtTree
@@ -189,14 +182,9 @@ assert_stmt p toks = do
 -- a catch clause (JLS 14.20)
 unfoldable pub catch_part : StmtParsers → Reads CatchTree
 catch_part s toks = do
-  word ← token (is_key CATCH) toks
-  left ← token (is_op LEFT_PAREN) word.1
-  fixed ← optional (token (is_key FINAL)) left.1
-  sort ← name fixed.1
-  id ← token is_ident sort.1
-  right ← token (is_op RIGHT_PAREN) id.1
-  body ← block s right.1
-  Some (Catch word.0 left.0 fixed.0 sort.0 id.0 right.0 body.0, body.1)
+  head ← catch_head toks
+  body ← block s head.1
+  Some (Catch head.0.word head.0.left head.0.fixed head.0.sort head.0.id head.0.right body.0, body.1)
 
 -- `finally` and its block, where it stands (JLS 14.20.2)
 unfoldable pub last_part : StmtParsers → Reads LastTree

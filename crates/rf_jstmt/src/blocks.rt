@@ -1,32 +1,19 @@
-ghost use Rattle.std.specs.Prelude.{◌+◌, ◌≤◌, ◌<◌, drop, length, IfOk};
-ghost use Rattle.rf_jtree.specs.StmtShown.{stmt_shown, stmts_shown, block_shown};
-ghost use Rattle.rf_jtree.specs.StmtTrees.{stmt_depth, stmts_depth, block_depth};
+ghost use Rattle.std.specs.Prelude.{◌≤◌, drop, length, IfOk};
+ghost use Rattle.rf_jtree.specs.StmtShown.{stmts_shown, block_shown};
+ghost use Rattle.rf_jtree.specs.StmtTrees.{stmts_depth, block_depth};
 ghost use Rattle.rf_jexpr.specs.Gives.{GivesTree, IsFound};
-ghost use Rattle.rf_jstmt.specs.StmtMade.{boxed_stmt_shown};
 ghost use Rattle.rf_jstmt.specs.StmtParts.{stmts, block};
 ghost use Rattle.rf_jstmt.specs.StmtReads.{stmt_parsers, block_alone};
+ghost use Rattle.rf_jstmt.specs.StmtGives.{GivesForm};
 
+use crate::boxes::joined;
 use crate::nodes::{block_of, braces_of};
 use crate::top::block_stmt;
-use rf_jexpr::{Found, ParseErr, Want, attempt, grown, take};
+use rf_jexpr::{Found, ParseErr, Want, attempt, take};
 use rf_jtree::operator_names::{LEFT_BRACE, RIGHT_BRACE};
 use rf_jtree::{Block, Stmt, Tok};
 use rf_text::{List, Memory};
 use std::alloc::Global;
-
-/// A statement among others, from behind its pointer.
-#[cycle(stmt)]
-fn next_stmt(alloc: Global, t: &[Tok], at: usize, room: u32) -> Result<Found<Stmt>, ParseErr>
-    ensures gives { GivesTree stmt_shown stmt_depth room t.now at result ((stmt_parsers room).block_stmt (drop at t.now)) }
-    ensures forth { IfOk result (λ x. at < x.end) }
-{
-    let found = block_stmt(alloc, t, at, room)?;
-    Ok(Found {
-        tree: Box::into_inner(found.tree),
-        end: found.end,
-        depth: found.depth,
-    })
-}
 
 /// Statements, as many as stand there, each no deeper than the room (JLS 14.2).
 #[cycle(stmt)]
@@ -39,8 +26,8 @@ pub fn stmts(alloc: Global, t: &[Tok], at: usize, room: u32) -> Result<Found<Lis
         end: at,
         depth: 0,
     };
-    'items: while let Some(next) = attempt(next_stmt(alloc, t, list.end, room))? {
-        list = grown(list, next)?;
+    'items: while let Some(next) = attempt(block_stmt(alloc, t, list.end, room))? {
+        list = joined(list, next)?;
     }
     Ok(list)
 }
@@ -70,7 +57,7 @@ pub(crate) fn block_alone(
     at: usize,
     room: u32,
 ) -> Result<Found<Box<Stmt>>, ParseErr>
-    ensures { GivesTree boxed_stmt_shown stmt_depth (room + 1) t.now at result (block_alone (stmt_parsers room) (drop at t.now)) }
+    ensures { GivesForm t.now at room result (λ p s. block_alone s) }
 {
     let block = body(alloc, t, at, room)?;
     let tree = block_of(alloc, block.tree)?;

@@ -1,11 +1,11 @@
-ghost use Rattle.std.specs.Prelude.{◌≡◌, ◌+◌, ◌≤◌, ◌<◌, drop, length, IfOk};
+ghost use Rattle.std.specs.Prelude.{◌≡◌, ◌≤◌, ◌<◌, drop, length, IfOk};
 ghost use Rattle.rf_jtree.specs.StmtShown.{group_shown, other_shown};
 ghost use Rattle.rf_jtree.specs.StmtFits.{ends_open};
-ghost use Rattle.rf_jtree.specs.StmtTrees.{group_depth, other_depth, stmt_depth};
+ghost use Rattle.rf_jtree.specs.StmtTrees.{group_depth, other_depth};
 ghost use Rattle.rf_jexpr.specs.Descent.{parsers};
 ghost use Rattle.rf_jexpr.specs.Gives.{GivesTree, IsFound};
 ghost use Rattle.rf_jexpr.specs.Reads.{many};
-ghost use Rattle.rf_jstmt.specs.StmtGives.{group_parts_shown, groups_found, groups_found_depth};
+ghost use Rattle.rf_jstmt.specs.StmtGives.{groups_found, groups_found_depth, GivesForm};
 ghost use Rattle.rf_jstmt.specs.StmtMade.{boxed_stmt_shown};
 ghost use Rattle.rf_jstmt.specs.StmtReads.{stmt_parsers, labeled, other_part, other, if_stmt, case_group, default_group, group, switch_stmt};
 
@@ -17,20 +17,11 @@ use rf_jexpr::{Found, ParseErr, Want, attempt, boxed_expr, deeper, grown, is_at,
 use rf_jfit::ends_open;
 use rf_jtree::keyword_names::{CASE, DEFAULT, ELSE, IF, SWITCH};
 use rf_jtree::operator_names::{COLON, LEFT_BRACE, RIGHT_BRACE};
-use rf_jtree::{Expr, Group, Stmt, Tok};
+use rf_jtree::{Group, Stmt, Tok};
 use rf_text::{List, Memory};
 use std::alloc::Global;
 
 // In each function, `room` is what is left for the parts, so that a statement itself has one more.
-
-/// The parts of a group of a `switch`.
-#[derive(Drop)]
-pub(crate) struct GroupParts {
-    pub word: Tok,
-    pub value: Option<Box<Expr>>,
-    pub colon: Tok,
-    pub body: List<Stmt>,
-}
 
 /// `id: body` (JLS 14.7).
 #[cycle(stmt)]
@@ -41,7 +32,7 @@ pub(crate) fn labeled(
     at: usize,
     room: u32,
 ) -> Result<Found<Box<Stmt>>, ParseErr>
-    ensures { GivesTree boxed_stmt_shown stmt_depth (room + 1) t.now at result (labeled (stmt_parsers room) (drop at t.now)) }
+    ensures { GivesForm t.now at room result (λ p s. labeled s) }
 {
     let id = take(alloc, t, at, Want::Ident)?;
     let colon = take(alloc, t, id.end, Want::Op(COLON))?;
@@ -116,7 +107,7 @@ pub(crate) fn if_stmt(
     at: usize,
     room: u32,
 ) -> Result<Found<Box<Stmt>>, ParseErr>
-    ensures { GivesTree boxed_stmt_shown stmt_depth (room + 1) t.now at result (if_stmt (parsers room) (stmt_parsers room) (drop at t.now)) }
+    ensures { GivesForm t.now at room result if_stmt }
 {
     let test = head_at(alloc, t, at, room, IF)?;
     let first = stmt(alloc, t, test.end, room)?;
@@ -132,8 +123,8 @@ pub(crate) fn if_stmt(
 /// `case value:` with the statements up to the next label (JLS 14.11).
 #[cycle(stmt)]
 #[tactic(auto, unfolding(crate::specs::StmtReads::case_group, rf_jexpr::specs::Reads::and_then))]
-fn case_group(alloc: Global, t: &[Tok], at: usize, room: u32) -> Result<Found<GroupParts>, ParseErr>
-    ensures gives { GivesTree group_parts_shown group_depth room t.now at result (case_group (parsers room) (stmt_parsers room) (drop at t.now)) }
+fn case_group(alloc: Global, t: &[Tok], at: usize, room: u32) -> Result<Found<Group>, ParseErr>
+    ensures gives { GivesTree group_shown group_depth room t.now at result (case_group (parsers room) (stmt_parsers room) (drop at t.now)) }
     ensures forth { IfOk result (λ x. at < x.end) }
 {
     let word = take(alloc, t, at, Want::Key(CASE))?;
@@ -141,12 +132,7 @@ fn case_group(alloc: Global, t: &[Tok], at: usize, room: u32) -> Result<Found<Gr
     let colon = take(alloc, t, label.end, Want::Op(COLON))?;
     let body = stmts(alloc, t, colon.end, room)?;
     Ok(Found {
-        tree: GroupParts {
-            word: word.item,
-            value: Some(label.tree),
-            colon: colon.item,
-            body: body.tree,
-        },
+        tree: group_of(word.item, Some(label.tree), colon.item, body.tree),
         end: body.end,
         depth: deeper(label.depth, body.depth),
     })
@@ -155,25 +141,15 @@ fn case_group(alloc: Global, t: &[Tok], at: usize, room: u32) -> Result<Found<Gr
 /// `default:` with the statements up to the next label (JLS 14.11).
 #[cycle(stmt)]
 #[tactic(auto, unfolding(crate::specs::StmtReads::default_group, rf_jexpr::specs::Reads::and_then))]
-fn default_group(
-    alloc: Global,
-    t: &[Tok],
-    at: usize,
-    room: u32,
-) -> Result<Found<GroupParts>, ParseErr>
-    ensures gives { GivesTree group_parts_shown group_depth room t.now at result (default_group (stmt_parsers room) (drop at t.now)) }
+fn default_group(alloc: Global, t: &[Tok], at: usize, room: u32) -> Result<Found<Group>, ParseErr>
+    ensures gives { GivesTree group_shown group_depth room t.now at result (default_group (stmt_parsers room) (drop at t.now)) }
     ensures forth { IfOk result (λ x. at < x.end) }
 {
     let word = take(alloc, t, at, Want::Key(DEFAULT))?;
     let colon = take(alloc, t, word.end, Want::Op(COLON))?;
     let body = stmts(alloc, t, colon.end, room)?;
     Ok(Found {
-        tree: GroupParts {
-            word: word.item,
-            value: None,
-            colon: colon.item,
-            body: body.tree,
-        },
+        tree: group_of(word.item, None, colon.item, body.tree),
         end: body.end,
         depth: body.depth,
     })
@@ -182,28 +158,14 @@ fn default_group(
 /// A group of a `switch` (JLS 14.11).
 #[cycle(stmt)]
 #[tactic(auto, unfolding(crate::specs::StmtReads::group))]
-fn group(alloc: Global, t: &[Tok], at: usize, room: u32) -> Result<Found<GroupParts>, ParseErr>
-    ensures gives { GivesTree group_parts_shown group_depth room t.now at result (group (parsers room) (stmt_parsers room) (drop at t.now)) }
+fn group(alloc: Global, t: &[Tok], at: usize, room: u32) -> Result<Found<Group>, ParseErr>
+    ensures gives { GivesTree group_shown group_depth room t.now at result (group (parsers room) (stmt_parsers room) (drop at t.now)) }
     ensures forth { IfOk result (λ x. at < x.end) }
 {
     if is_at(t, at, Want::Key(CASE)) {
         return case_group(alloc, t, at, room);
     }
     default_group(alloc, t, at, room)
-}
-
-/// A group of a `switch` in one piece.
-#[cycle(stmt)]
-fn next_group(alloc: Global, t: &[Tok], at: usize, room: u32) -> Result<Found<Group>, ParseErr>
-    ensures gives { GivesTree group_shown group_depth room t.now at result (group (parsers room) (stmt_parsers room) (drop at t.now)) }
-    ensures forth { IfOk result (λ x. at < x.end) }
-{
-    let found = group(alloc, t, at, room)?;
-    Ok(Found {
-        tree: group_of(found.tree),
-        end: found.end,
-        depth: found.depth,
-    })
 }
 
 /// The groups of a `switch`, as many as stand there (JLS 14.11).
@@ -217,7 +179,7 @@ fn groups(alloc: Global, t: &[Tok], at: usize, room: u32) -> Result<Found<List<G
         end: at,
         depth: 0,
     };
-    'items: while let Some(next) = attempt(next_group(alloc, t, list.end, room))? {
+    'items: while let Some(next) = attempt(group(alloc, t, list.end, room))? {
         list = grown(list, next)?;
     }
     Ok(list)
@@ -232,7 +194,7 @@ pub(crate) fn switch_stmt(
     at: usize,
     room: u32,
 ) -> Result<Found<Box<Stmt>>, ParseErr>
-    ensures { GivesTree boxed_stmt_shown stmt_depth (room + 1) t.now at result (switch_stmt (parsers room) (stmt_parsers room) (drop at t.now)) }
+    ensures { GivesForm t.now at room result switch_stmt }
 {
     let on = head_at(alloc, t, at, room, SWITCH)?;
     let brace = take(alloc, t, on.end, Want::Op(LEFT_BRACE))?;

@@ -11,20 +11,12 @@ ghost use Rattle.rf_jstmt.specs.StmtMade.{head_shown, head_depth};
 ghost use Rattle.rf_jstmt.specs.StmtParts.{head, optional_expr, statement_exprs};
 ghost use Rattle.rf_jstmt.specs.StmtTests.{is_statement_expr, are_statement_exprs};
 
+use crate::boxes::put;
 use rf_jexpr::{Found, ParseErr, Want, boxed_expr, exprs, take, tok_at};
 use rf_jfit::{are_statement_exprs, begins_operand, is_op_of, is_statement_expr};
 use rf_jtree::operator_names::{LEFT_PAREN, PREFIXES, RIGHT_PAREN};
-use rf_jtree::{Expr, Kw, Many, Tok};
+use rf_jtree::{Expr, Head, Kw, Many, Tok};
 use std::alloc::Global;
-
-/// A keyword with an expression in parentheses behind it.
-#[derive(Drop)]
-pub(crate) struct Head {
-    pub word: Tok,
-    pub left: Tok,
-    pub value: Box<Expr>,
-    pub right: Tok,
-}
 
 /// `key (value)`, as `if`, `while`, `switch` and `synchronized` have it.
 #[tactic(auto, unfolding(crate::specs::StmtParts::head, rf_jexpr::specs::Reads::and_then))]
@@ -34,20 +26,21 @@ pub(crate) fn head_at(
     at: usize,
     room: u32,
     key: Kw,
-) -> Result<Found<Head>, ParseErr>
+) -> Result<Found<Box<Head>>, ParseErr>
     ensures { GivesTree head_shown head_depth room t.now at result (head (parsers room) key (drop at t.now)) }
 {
     let word = take(alloc, t, at, Want::Key(key))?;
     let left = take(alloc, t, word.end, Want::Op(LEFT_PAREN))?;
     let value = boxed_expr(alloc, t, left.end, room)?;
     let right = take(alloc, t, value.end, Want::Op(RIGHT_PAREN))?;
+    let head = Head {
+        word: word.item,
+        left: left.item,
+        value: value.tree,
+        right: right.item,
+    };
     Ok(Found {
-        tree: Head {
-            word: word.item,
-            left: left.item,
-            value: value.tree,
-            right: right.item,
-        },
+        tree: put(alloc, head)?,
         end: right.end,
         depth: value.depth,
     })

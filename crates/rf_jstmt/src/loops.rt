@@ -1,13 +1,14 @@
-ghost use Rattle.std.specs.Prelude.{◌+◌, ◌≤◌, drop, length};
+ghost use Rattle.std.specs.Prelude.{◌≤◌, drop, length};
 ghost use Rattle.rf_jtree.specs.NameShown.{mods_shown, type_shown};
 ghost use Rattle.rf_jtree.specs.StmtShown.{first_shown};
-ghost use Rattle.rf_jtree.specs.StmtTrees.{stmt_depth};
 ghost use Rattle.rf_jexpr.specs.Descent.{parsers};
 ghost use Rattle.rf_jexpr.specs.Gives.{GivesTree};
-ghost use Rattle.rf_jstmt.specs.StmtGives.{IsFirstKnown};
-ghost use Rattle.rf_jstmt.specs.StmtMade.{boxed_stmt_shown};
-ghost use Rattle.rf_jstmt.specs.StmtReads.{stmt_parsers, while_stmt, do_stmt, basic_for, each_for, local_for, for_stmt};
+ghost use Rattle.rf_jstmt.specs.StmtGives.{IsFirstKnown, GivesForm};
+ghost use Rattle.rf_jstmt.specs.StmtMade.{for_head_shown, for_head_depth, each_head_shown, each_head_depth};
+ghost use Rattle.rf_jstmt.specs.StmtParts.{for_head, each_head};
+ghost use Rattle.rf_jstmt.specs.StmtReads.{while_stmt, do_stmt, basic_for, each_for, local_for, for_stmt};
 
+use crate::boxes::put;
 use crate::heads::{head_at, optional_expr, statement_exprs};
 use crate::locals::{begins_label_at, begins_local, local_vars};
 use crate::modifiers::variable_mods;
@@ -16,7 +17,7 @@ use crate::top::stmt;
 use rf_jexpr::{Found, ParseErr, Want, boxed_expr, deeper, take, type_use};
 use rf_jtree::keyword_names::{DO, FOR, WHILE};
 use rf_jtree::operator_names::{COLON, LEFT_PAREN, RIGHT_PAREN, SEMICOLON};
-use rf_jtree::{ForFirst, Mod, Stmt, Tok, TypeUse};
+use rf_jtree::{EachHead, ForFirst, ForHead, Mod, Stmt, Tok, TypeUse};
 use rf_text::List;
 use std::alloc::Global;
 
@@ -31,7 +32,7 @@ pub(crate) fn while_stmt(
     at: usize,
     room: u32,
 ) -> Result<Found<Box<Stmt>>, ParseErr>
-    ensures { GivesTree boxed_stmt_shown stmt_depth (room + 1) t.now at result (while_stmt (parsers room) (stmt_parsers room) (drop at t.now)) }
+    ensures { GivesForm t.now at room result while_stmt }
 {
     let test = head_at(alloc, t, at, room, WHILE)?;
     let body = stmt(alloc, t, test.end, room)?;
@@ -52,7 +53,7 @@ pub(crate) fn do_stmt(
     at: usize,
     room: u32,
 ) -> Result<Found<Box<Stmt>>, ParseErr>
-    ensures { GivesTree boxed_stmt_shown stmt_depth (room + 1) t.now at result (do_stmt (parsers room) (stmt_parsers room) (drop at t.now)) }
+    ensures { GivesForm t.now at room result do_stmt }
 {
     let word = take(alloc, t, at, Want::Key(DO))?;
     let body = stmt(alloc, t, word.end, room)?;
@@ -66,7 +67,43 @@ pub(crate) fn do_stmt(
     })
 }
 
-/// `; test; last) body` of a `for` (JLS 14.14.1).
+/// `; test; last)` of a `for`, behind its first part (JLS 14.14.1).
+#[tactic(auto, unfolding(crate::specs::StmtParts::for_head, rf_jexpr::specs::Reads::and_then))]
+fn for_head(
+    alloc: Global,
+    t: &[Tok],
+    room: u32,
+    word: Tok,
+    left: Tok,
+    first: Found<ForFirst>,
+) -> Result<Found<Box<ForHead>>, ParseErr>
+    requires known { IsFirstKnown first }
+    requires shallow { first.depth ≤ room }
+    ensures { GivesTree for_head_shown for_head_depth room t.now first.end result (for_head (parsers room) word left (first_shown first.tree) (drop first.end t.now)) }
+{
+    let semi1 = take(alloc, t, first.end, Want::Op(SEMICOLON))?;
+    let test = optional_expr(alloc, t, semi1.end, room)?;
+    let semi2 = take(alloc, t, test.end, Want::Op(SEMICOLON))?;
+    let last = statement_exprs(alloc, t, semi2.end, room)?;
+    let right = take(alloc, t, last.end, Want::Op(RIGHT_PAREN))?;
+    let head = ForHead {
+        word,
+        left,
+        first: first.tree,
+        semi1: semi1.item,
+        test: test.tree,
+        semi2: semi2.item,
+        last: last.tree,
+        right: right.item,
+    };
+    Ok(Found {
+        tree: put(alloc, head)?,
+        end: right.end,
+        depth: deeper(first.depth, deeper(test.depth, last.depth)),
+    })
+}
+
+/// A basic `for`, behind its first part (JLS 14.14.1).
 #[cycle(stmt)]
 #[tactic(auto, unfolding(crate::specs::StmtReads::basic_for, rf_jexpr::specs::Reads::and_then))]
 fn basic_for(
@@ -79,29 +116,54 @@ fn basic_for(
 ) -> Result<Found<Box<Stmt>>, ParseErr>
     requires known { IsFirstKnown first }
     requires shallow { first.depth ≤ room }
-    ensures { GivesTree boxed_stmt_shown stmt_depth (room + 1) t.now first.end result (basic_for (parsers room) (stmt_parsers room) word left (first_shown first.tree) (drop first.end t.now)) }
+    ensures { GivesForm t.now first.end room result (λ p s. basic_for p s word left (first_shown first.tree)) }
 {
-    let semi1 = take(alloc, t, first.end, Want::Op(SEMICOLON))?;
-    let test = optional_expr(alloc, t, semi1.end, room)?;
-    let semi2 = take(alloc, t, test.end, Want::Op(SEMICOLON))?;
-    let last = statement_exprs(alloc, t, semi2.end, room)?;
-    let right = take(alloc, t, last.end, Want::Op(RIGHT_PAREN))?;
-    let body = stmt(alloc, t, right.end, room)?;
-    let tree = for_of(
-        alloc, word, left, first.tree, semi1.item, test.tree, semi2.item, last.tree, right.item,
-        body.tree,
-    )?;
+    let head = for_head(alloc, t, room, word, left, first)?;
+    let body = stmt(alloc, t, head.end, room)?;
+    let tree = for_of(alloc, head.tree, body.tree)?;
     Ok(Found {
         tree,
         end: body.end,
-        depth: deeper(
-            first.depth,
-            deeper(test.depth, deeper(last.depth, body.depth)),
-        ) + 1,
+        depth: deeper(head.depth, body.depth) + 1,
     })
 }
 
-/// `x : over) body` of a `for` (JLS 14.14.2).
+/// `x : over)` of a `for`, behind its type (JLS 14.14.2).
+#[tactic(auto, unfolding(crate::specs::StmtParts::each_head, rf_jexpr::specs::Reads::and_then))]
+fn each_head(
+    alloc: Global,
+    t: &[Tok],
+    at: usize,
+    room: u32,
+    word: Tok,
+    left: Tok,
+    mods: List<Mod>,
+    sort: TypeUse,
+) -> Result<Found<Box<EachHead>>, ParseErr>
+    ensures { GivesTree each_head_shown each_head_depth room t.now at result (each_head (parsers room) word left (mods_shown mods) (type_shown sort) (drop at t.now)) }
+{
+    let id = take(alloc, t, at, Want::Ident)?;
+    let colon = take(alloc, t, id.end, Want::Op(COLON))?;
+    let over = boxed_expr(alloc, t, colon.end, room)?;
+    let right = take(alloc, t, over.end, Want::Op(RIGHT_PAREN))?;
+    let head = EachHead {
+        word,
+        left,
+        mods,
+        sort,
+        id: id.item,
+        colon: colon.item,
+        over: over.tree,
+        right: right.item,
+    };
+    Ok(Found {
+        tree: put(alloc, head)?,
+        end: right.end,
+        depth: over.depth,
+    })
+}
+
+/// A `for` over what an expression gives, behind its type (JLS 14.14.2).
 #[cycle(stmt)]
 #[tactic(auto, unfolding(crate::specs::StmtReads::each_for, rf_jexpr::specs::Reads::and_then))]
 fn each_for(
@@ -114,20 +176,15 @@ fn each_for(
     mods: List<Mod>,
     sort: TypeUse,
 ) -> Result<Found<Box<Stmt>>, ParseErr>
-    ensures { GivesTree boxed_stmt_shown stmt_depth (room + 1) t.now at result (each_for (parsers room) (stmt_parsers room) word left (mods_shown mods) (type_shown sort) (drop at t.now)) }
+    ensures { GivesForm t.now at room result (λ p s. each_for p s word left (mods_shown mods) (type_shown sort)) }
 {
-    let id = take(alloc, t, at, Want::Ident)?;
-    let colon = take(alloc, t, id.end, Want::Op(COLON))?;
-    let over = boxed_expr(alloc, t, colon.end, room)?;
-    let right = take(alloc, t, over.end, Want::Op(RIGHT_PAREN))?;
-    let body = stmt(alloc, t, right.end, room)?;
-    let tree = each_of(
-        alloc, word, left, mods, sort, id.item, colon.item, over.tree, right.item, body.tree,
-    )?;
+    let head = each_head(alloc, t, at, room, word, left, mods, sort)?;
+    let body = stmt(alloc, t, head.end, room)?;
+    let tree = each_of(alloc, head.tree, body.tree)?;
     Ok(Found {
         tree,
         end: body.end,
-        depth: deeper(over.depth, body.depth) + 1,
+        depth: deeper(head.depth, body.depth) + 1,
     })
 }
 
@@ -143,7 +200,7 @@ fn local_for(
     left: Tok,
 ) -> Result<Found<Box<Stmt>>, ParseErr>
     requires { at ≤ length t.now }
-    ensures { GivesTree boxed_stmt_shown stmt_depth (room + 1) t.now at result (local_for (parsers room) (stmt_parsers room) word left (drop at t.now)) }
+    ensures { GivesForm t.now at room result (λ p s. local_for p s word left) }
 {
     let mods = variable_mods(alloc, t, at)?;
     let sort = type_use(alloc, t, mods.end)?;
@@ -168,7 +225,7 @@ pub(crate) fn for_stmt(
     at: usize,
     room: u32,
 ) -> Result<Found<Box<Stmt>>, ParseErr>
-    ensures { GivesTree boxed_stmt_shown stmt_depth (room + 1) t.now at result (for_stmt (parsers room) (stmt_parsers room) (drop at t.now)) }
+    ensures { GivesForm t.now at room result for_stmt }
 {
     let word = take(alloc, t, at, Want::Key(FOR))?;
     let left = take(alloc, t, word.end, Want::Op(LEFT_PAREN))?;

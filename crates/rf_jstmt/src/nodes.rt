@@ -1,31 +1,18 @@
-ghost use Rattle.std.specs.Prelude.{◌≡◌, IfOk, option_map};
-ghost use Rattle.rf_jtree.specs.ExprShown.{expr_shown, exprs_shown};
-ghost use Rattle.rf_jtree.specs.NameShown.{mods_shown, name_shown, type_shown};
-ghost use Rattle.rf_jtree.specs.StmtShown.{block_shown, catch_shown, catches_tree, first_shown, group_shown, groups_tree, last_shown, other_shown, stmts_shown};
+ghost use Rattle.std.specs.Prelude.{◌≡◌};
+ghost use Rattle.rf_jtree.specs.StmtShown.{block_shown, catch_shown, catches_tree, group_shown, groups_tree, last_shown, optional_expr_shown, other_shown, stmts_shown};
+ghost use Rattle.rf_jtree.specs.StmtShown.{if_tree, while_tree, do_tree, for_tree, each_tree, switch_tree, sync_tree};
 ghost use Rattle.rf_jtree.specs.StmtTrees as trees;
-ghost use Rattle.rf_jexpr.specs.Made.{boxed_shown};
-ghost use Rattle.rf_jstmt.specs.StmtGives.{catches_found, group_parts_shown, groups_found};
-ghost use Rattle.rf_jstmt.specs.StmtMade.{boxed_stmt_shown};
+ghost use Rattle.rf_jstmt.specs.StmtGives.{catch_head_shown, catch_tree, catches_found, groups_found};
+ghost use Rattle.rf_jstmt.specs.StmtMade.{boxed_stmt_shown, MakesStmt};
 
-use crate::boxes::boxed;
-use crate::branches::GroupParts;
-use crate::heads::Head;
-use rf_jtree::{Block, Catch, Expr, ForFirst, Group, Many, Mod, Name, Stmt, Tok, TypeUse};
+use crate::boxes::{boxed, put};
+use crate::tries::CatchHead;
+use rf_jtree::{Block, Catch, EachHead, Expr, ForHead, Group, Head, Stmt, Tok};
 use rf_text::{List, Memory};
 use std::alloc::Global;
 
 // Statements, and their parts, of lesser parts. What is read stands behind pointers from the first, so that each form is
 // one step.
-
-/// An expression that may be left out, from behind its pointer.
-fn unboxed(value: Option<Box<Expr>>) -> Option<Expr>
-    ensures { option_map expr_shown result ≡ option_map boxed_shown value }
-{
-    match value {
-        Some(found) => Some(Box::into_inner(found)),
-        None => None,
-    }
-}
 
 pub(crate) fn braces_of(left: Tok, list: List<Stmt>, right: Tok) -> Block
     ensures { block_shown result ≡ trees.Braces left (stmts_shown list) right }
@@ -34,7 +21,7 @@ pub(crate) fn braces_of(left: Tok, list: List<Stmt>, right: Tok) -> Block
 }
 
 pub(crate) fn block_of(alloc: Global, block: Block) -> Result<Box<Stmt>, Memory>
-    ensures { IfOk result (λ found. boxed_stmt_shown found ≡ trees.Block (block_shown block)) }
+    ensures { MakesStmt result (trees.Block (block_shown block)) }
 {
     boxed(alloc, Stmt::Block(block))
 }
@@ -45,65 +32,43 @@ pub(crate) fn label_of(
     colon: Tok,
     body: Box<Stmt>,
 ) -> Result<Box<Stmt>, Memory>
-    ensures { IfOk result (λ found. boxed_stmt_shown found ≡ trees.Label id colon (boxed_stmt_shown body)) }
+    ensures { MakesStmt result (trees.Label id colon (boxed_stmt_shown body)) }
 {
     boxed(alloc, Stmt::Label(id, colon, body))
 }
 
 pub(crate) fn if_of(
     alloc: Global,
-    test: Head,
+    head: Box<Head>,
     then: Box<Stmt>,
     other: Option<(Tok, Box<Stmt>)>,
 ) -> Result<Box<Stmt>, Memory>
-    ensures { IfOk result (λ found. boxed_stmt_shown found ≡ trees.If test.word test.left (boxed_shown test.value) test.right (boxed_stmt_shown then) (other_shown other)) }
+    ensures { MakesStmt result (if_tree head.value (boxed_stmt_shown then) (other_shown other)) }
 {
-    boxed(
-        alloc,
-        Stmt::If {
-            word: test.word,
-            left: test.left,
-            test: Box::into_inner(test.value),
-            right: test.right,
-            then,
-            other,
-        },
-    )
+    boxed(alloc, Stmt::If { head, then, other })
 }
 
-pub(crate) fn while_of(alloc: Global, test: Head, body: Box<Stmt>) -> Result<Box<Stmt>, Memory>
-    ensures { IfOk result (λ found. boxed_stmt_shown found ≡ trees.While test.word test.left (boxed_shown test.value) test.right (boxed_stmt_shown body)) }
+pub(crate) fn while_of(alloc: Global, head: Box<Head>, body: Box<Stmt>) -> Result<Box<Stmt>, Memory>
+    ensures { MakesStmt result (while_tree head.value (boxed_stmt_shown body)) }
 {
-    boxed(
-        alloc,
-        Stmt::While {
-            word: test.word,
-            left: test.left,
-            test: Box::into_inner(test.value),
-            right: test.right,
-            body,
-        },
-    )
+    boxed(alloc, Stmt::While { head, body })
 }
 
 pub(crate) fn do_of(
     alloc: Global,
     word: Tok,
     body: Box<Stmt>,
-    test: Head,
+    until: Box<Head>,
     semi: Tok,
 ) -> Result<Box<Stmt>, Memory>
-    ensures { IfOk result (λ found. boxed_stmt_shown found ≡ trees.Do word (boxed_stmt_shown body) test.word test.left (boxed_shown test.value) test.right semi) }
+    ensures { MakesStmt result (do_tree word (boxed_stmt_shown body) until.value semi) }
 {
     boxed(
         alloc,
         Stmt::Do {
             word,
             body,
-            until: test.word,
-            left: test.left,
-            test: Box::into_inner(test.value),
-            right: test.right,
+            until,
             semi,
         },
     )
@@ -112,93 +77,50 @@ pub(crate) fn do_of(
 /// A basic `for` (JLS 14.14.1).
 pub(crate) fn for_of(
     alloc: Global,
-    word: Tok,
-    left: Tok,
-    first: ForFirst,
-    semi1: Tok,
-    test: Option<Box<Expr>>,
-    semi2: Tok,
-    last: Option<Many<Expr>>,
-    right: Tok,
+    head: Box<ForHead>,
     body: Box<Stmt>,
 ) -> Result<Box<Stmt>, Memory>
-    ensures { IfOk result (λ found. boxed_stmt_shown found ≡ trees.For word left (first_shown first) semi1 (option_map boxed_shown test) semi2 (exprs_shown last) right (boxed_stmt_shown body)) }
+    ensures { MakesStmt result (for_tree head.value (boxed_stmt_shown body)) }
 {
-    boxed(
-        alloc,
-        Stmt::For {
-            word,
-            left,
-            first,
-            semi1,
-            test: unboxed(test),
-            semi2,
-            last,
-            right,
-            body,
-        },
-    )
+    boxed(alloc, Stmt::For { head, body })
 }
 
 /// A `for` over what an expression gives (JLS 14.14.2).
 pub(crate) fn each_of(
     alloc: Global,
-    word: Tok,
-    left: Tok,
-    mods: List<Mod>,
-    sort: TypeUse,
-    id: Tok,
-    colon: Tok,
-    over: Box<Expr>,
-    right: Tok,
+    head: Box<EachHead>,
     body: Box<Stmt>,
 ) -> Result<Box<Stmt>, Memory>
-    ensures { IfOk result (λ found. boxed_stmt_shown found ≡ trees.Each word left (mods_shown mods) (type_shown sort) id colon (boxed_shown over) right (boxed_stmt_shown body)) }
+    ensures { MakesStmt result (each_tree head.value (boxed_stmt_shown body)) }
 {
-    boxed(
-        alloc,
-        Stmt::Each {
-            word,
-            left,
-            mods,
-            sort,
-            id,
-            colon,
-            over: Box::into_inner(over),
-            right,
-            body,
-        },
-    )
+    boxed(alloc, Stmt::Each { head, body })
 }
 
 /// A group of a `switch`.
-pub(crate) fn group_of(parts: GroupParts) -> Group
-    ensures { group_shown result ≡ group_parts_shown parts }
+pub(crate) fn group_of(word: Tok, value: Option<Box<Expr>>, colon: Tok, body: List<Stmt>) -> Group
+    ensures { group_shown result ≡ trees.Group word (optional_expr_shown value) colon (stmts_shown body) }
 {
     Group {
-        word: parts.word,
-        value: unboxed(parts.value),
-        colon: parts.colon,
-        body: parts.body,
+        word,
+        value,
+        colon,
+        body,
     }
 }
 
 pub(crate) fn switch_of(
     alloc: Global,
-    on: Head,
+    head: Box<Head>,
     brace: Tok,
     groups: List<Group>,
     end: Tok,
 ) -> Result<Box<Stmt>, Memory>
-    ensures { IfOk result (λ found. boxed_stmt_shown found ≡ trees.Switch on.word on.left (boxed_shown on.value) on.right brace (groups_tree (groups_found groups)) end) }
+    ensures { MakesStmt result (switch_tree head.value brace (groups_tree (groups_found groups)) end) }
 {
     boxed(
         alloc,
         Stmt::Switch {
-            word: on.word,
-            left: on.left,
-            on: Box::into_inner(on.value),
-            right: on.right,
+            head,
             brace,
             groups,
             end,
@@ -206,40 +128,24 @@ pub(crate) fn switch_of(
     )
 }
 
-pub(crate) fn sync_of(alloc: Global, on: Head, body: Block) -> Result<Box<Stmt>, Memory>
-    ensures { IfOk result (λ found. boxed_stmt_shown found ≡ trees.Sync on.word on.left (boxed_shown on.value) on.right (block_shown body)) }
+pub(crate) fn sync_of(alloc: Global, head: Box<Head>, body: Block) -> Result<Box<Stmt>, Memory>
+    ensures { MakesStmt result (sync_tree head.value (block_shown body)) }
 {
-    boxed(
-        alloc,
-        Stmt::Sync {
-            word: on.word,
-            left: on.left,
-            on: Box::into_inner(on.value),
-            right: on.right,
-            body,
-        },
-    )
+    let body = put(alloc, body)?;
+    boxed(alloc, Stmt::Sync { head, body })
 }
 
 /// A catch clause.
-pub(crate) fn catch_of(
-    word: Tok,
-    left: Tok,
-    fixed: Option<Tok>,
-    name: Name,
-    id: Tok,
-    right: Tok,
-    body: Block,
-) -> Catch
-    ensures { catch_shown result ≡ trees.Catch word left fixed (name_shown name) id right (block_shown body) }
+pub(crate) fn catch_of(head: CatchHead, body: Block) -> Catch
+    ensures { catch_shown result ≡ catch_tree (catch_head_shown head) (block_shown body) }
 {
     Catch {
-        word,
-        left,
-        fixed,
-        name,
-        id,
-        right,
+        word: head.word,
+        left: head.left,
+        fixed: head.fixed,
+        name: head.name,
+        id: head.id,
+        right: head.right,
         body,
     }
 }
@@ -249,10 +155,11 @@ pub(crate) fn try_of(
     word: Tok,
     body: Block,
     catches: List<Catch>,
-    last: Option<(Tok, Block)>,
+    last: Option<(Tok, Box<Block>)>,
 ) -> Result<Box<Stmt>, Memory>
-    ensures { IfOk result (λ found. boxed_stmt_shown found ≡ trees.Try word (block_shown body) (catches_tree (catches_found catches)) (last_shown last)) }
+    ensures { MakesStmt result (trees.Try word (block_shown body) (catches_tree (catches_found catches)) (last_shown last)) }
 {
+    let body = put(alloc, body)?;
     boxed(
         alloc,
         Stmt::Try {

@@ -1,12 +1,12 @@
-ghost use Rattle.std.specs.Prelude.{◌≤◌, ◌+◌, drop, length, option_map, IfOk};
+ghost use Rattle.std.specs.Prelude.{◌≤◌, drop, length, option_map, IfOk};
 ghost use Rattle.rf_jtree.specs.NameTrees.{option_depth};
-ghost use Rattle.rf_jtree.specs.StmtTrees.{stmt_depth};
 ghost use Rattle.rf_jtree.specs.declared.operator_names.TheConstants.{COLON};
 ghost use Rattle.rf_jexpr.specs.Descent.{parsers};
 ghost use Rattle.rf_jexpr.specs.Gives.{Gives, GivesTree, IsFound, IsTaken};
 ghost use Rattle.rf_jexpr.specs.Reads.{is_op, is_ident, token, optional, behind};
-ghost use Rattle.rf_jstmt.specs.StmtMade.{boxed_stmt_shown, boxed_message_shown, message_depth};
+ghost use Rattle.rf_jstmt.specs.StmtMade.{boxed_message_shown, message_depth};
 ghost use Rattle.rf_jstmt.specs.StmtReads.{empty, value, jumps, jump, return_stmt, throw_stmt, assert_stmt, local_stmt};
+ghost use Rattle.rf_jstmt.specs.StmtGives.{GivesForm};
 
 use crate::heads::{is_statement, optional_expr};
 use crate::locals::local;
@@ -28,7 +28,7 @@ pub(crate) fn empty(
     at: usize,
     room: u32,
 ) -> Result<Found<Box<Stmt>>, ParseErr>
-    ensures { GivesTree boxed_stmt_shown stmt_depth (room + 1) t.now at result (empty (drop at t.now)) }
+    ensures { GivesForm t.now at room result (λ p s. empty) }
 {
     let semi = take(alloc, t, at, Want::Op(SEMICOLON))?;
     let tree = empty_of(alloc, semi.item)?;
@@ -47,7 +47,7 @@ pub(crate) fn value(
     at: usize,
     room: u32,
 ) -> Result<Found<Box<Stmt>>, ParseErr>
-    ensures { GivesTree boxed_stmt_shown stmt_depth (room + 1) t.now at result (value (parsers room) (drop at t.now)) }
+    ensures { GivesForm t.now at room result (λ p s. value p) }
 {
     let found = boxed_expr(alloc, t, at, room)?;
     if !is_statement(&found.tree) {
@@ -98,7 +98,7 @@ pub(crate) fn jump(
     at: usize,
     room: u32,
 ) -> Result<Found<Box<Stmt>>, ParseErr>
-    ensures { GivesTree boxed_stmt_shown stmt_depth (room + 1) t.now at result (jump (drop at t.now)) }
+    ensures { GivesForm t.now at room result (λ p s. jump) }
 {
     let word = jump_word(alloc, t, at)?;
     let label = some_label(alloc, t, word.end)?;
@@ -119,7 +119,7 @@ pub(crate) fn return_stmt(
     at: usize,
     room: u32,
 ) -> Result<Found<Box<Stmt>>, ParseErr>
-    ensures { GivesTree boxed_stmt_shown stmt_depth (room + 1) t.now at result (return_stmt (parsers room) (drop at t.now)) }
+    ensures { GivesForm t.now at room result (λ p s. return_stmt p) }
 {
     let word = take(alloc, t, at, Want::Key(RETURN))?;
     let value = optional_expr(alloc, t, word.end, room)?;
@@ -140,7 +140,7 @@ pub(crate) fn throw_stmt(
     at: usize,
     room: u32,
 ) -> Result<Found<Box<Stmt>>, ParseErr>
-    ensures { GivesTree boxed_stmt_shown stmt_depth (room + 1) t.now at result (throw_stmt (parsers room) (drop at t.now)) }
+    ensures { GivesForm t.now at room result (λ p s. throw_stmt p) }
 {
     let word = take(alloc, t, at, Want::Key(THROW))?;
     let value = boxed_expr(alloc, t, word.end, room)?;
@@ -205,7 +205,7 @@ pub(crate) fn assert_stmt(
     at: usize,
     room: u32,
 ) -> Result<Found<Box<Stmt>>, ParseErr>
-    ensures { GivesTree boxed_stmt_shown stmt_depth (room + 1) t.now at result (assert_stmt (parsers room) (drop at t.now)) }
+    ensures { GivesForm t.now at room result (λ p s. assert_stmt p) }
 {
     let word = take(alloc, t, at, Want::Key(ASSERT))?;
     let test = boxed_expr(alloc, t, word.end, room)?;
@@ -227,7 +227,7 @@ pub(crate) fn local_stmt(
     at: usize,
     room: u32,
 ) -> Result<Found<Box<Stmt>>, ParseErr>
-    ensures { GivesTree boxed_stmt_shown stmt_depth (room + 1) t.now at result (local_stmt (parsers room) (drop at t.now)) }
+    ensures { GivesForm t.now at room result (λ p s. local_stmt p) }
 {
     if t.len() < at {
         return Err(ParseErr::NoTree);

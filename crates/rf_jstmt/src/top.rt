@@ -1,9 +1,9 @@
-ghost use Rattle.std.specs.Prelude.{◌+◌, drop};
+ghost use Rattle.std.specs.Prelude.{drop};
 ghost use Rattle.rf_jtree.specs.StmtTrees.{stmt_depth};
-ghost use Rattle.rf_jexpr.specs.Descent.{parsers};
 ghost use Rattle.rf_jexpr.specs.Gives.{GivesTree};
 ghost use Rattle.rf_jstmt.specs.StmtMade.{boxed_stmt_shown};
 ghost use Rattle.rf_jstmt.specs.StmtReads.{stmt_parsers, by_word, stmt};
+ghost use Rattle.rf_jstmt.specs.StmtGives.{GivesForm};
 
 use crate::blocks::block_alone;
 use crate::branches::{if_stmt, labeled, switch_stmt};
@@ -24,7 +24,7 @@ use std::alloc::Global;
 #[cycle(stmt)]
 #[tactic(auto, unfolding(crate::specs::StmtReads::by_word))]
 fn by_word(alloc: Global, t: &[Tok], at: usize, room: u32) -> Result<Found<Box<Stmt>>, ParseErr>
-    ensures { GivesTree boxed_stmt_shown stmt_depth (room + 1) t.now at result (by_word (parsers room) (stmt_parsers room) (drop at t.now)) }
+    ensures { GivesForm t.now at room result by_word }
 {
     if is_at(t, at, Want::Op(LEFT_BRACE)) {
         return block_alone(alloc, t, at, room);
@@ -69,7 +69,7 @@ fn by_word(alloc: Global, t: &[Tok], at: usize, room: u32) -> Result<Found<Box<S
 #[cycle(stmt)]
 #[tactic(auto, unfolding(crate::specs::StmtReads::stmt))]
 fn any_stmt(alloc: Global, t: &[Tok], at: usize, room: u32) -> Result<Found<Box<Stmt>>, ParseErr>
-    ensures { GivesTree boxed_stmt_shown stmt_depth (room + 1) t.now at result (stmt (parsers room) (stmt_parsers room) (drop at t.now)) }
+    ensures { GivesForm t.now at room result stmt }
 {
     if !begins_expr_at(t, at) {
         return by_word(alloc, t, at, room);

@@ -1,21 +1,21 @@
-ghost use Rattle.std.specs.Prelude.{◌≡◌, ◌+◌, ◌≤◌, ◌<◌, drop, length, IfOk};
+ghost use Rattle.std.specs.Prelude.{◌≡◌, ◌≤◌, ◌<◌, drop, length, IfOk};
 ghost use Rattle.rf_jtree.specs.StmtShown.{catch_shown, catches_tree, last_shown};
-ghost use Rattle.rf_jtree.specs.StmtTrees.{catch_depth, last_depth, stmt_depth};
+ghost use Rattle.rf_jtree.specs.StmtTrees.{catch_depth, last_depth};
 ghost use Rattle.rf_jtree.specs.declared.keyword_names.TheConstants.{FINAL};
-ghost use Rattle.rf_jexpr.specs.Descent.{parsers};
-ghost use Rattle.rf_jexpr.specs.Gives.{GivesTree, IsFound, IsTaken};
+ghost use Rattle.rf_jexpr.specs.Gives.{Gives, GivesTree, IsFound, IsTaken};
 ghost use Rattle.rf_jexpr.specs.Reads.{is_key, many, optional, token};
-ghost use Rattle.rf_jstmt.specs.StmtGives.{catches_found, catches_found_depth};
-ghost use Rattle.rf_jstmt.specs.StmtMade.{boxed_stmt_shown};
+ghost use Rattle.rf_jstmt.specs.StmtGives.{catch_head_shown, catches_found, catches_found_depth, GivesForm};
+ghost use Rattle.rf_jstmt.specs.StmtParts.{catch_head};
 ghost use Rattle.rf_jstmt.specs.StmtReads.{stmt_parsers, sync_stmt, catch_part, last_part, last, has_part, try_stmt};
 
 use crate::blocks::body;
+use crate::boxes::put;
 use crate::heads::head_at;
 use crate::nodes::{catch_of, sync_of, try_of};
 use rf_jexpr::{Found, ParseErr, Taken, Want, attempt, deeper, grown, is_at, name, take};
 use rf_jtree::keyword_names::{CATCH, FINAL, FINALLY, SYNCHRONIZED, TRY};
 use rf_jtree::operator_names::{LEFT_PAREN, RIGHT_PAREN};
-use rf_jtree::{Block, Catch, Stmt, Tok};
+use rf_jtree::{Block, Catch, Name, Stmt, Tok};
 use rf_text::{List, Memory};
 use std::alloc::Global;
 
@@ -30,7 +30,7 @@ pub(crate) fn sync_stmt(
     at: usize,
     room: u32,
 ) -> Result<Found<Box<Stmt>>, ParseErr>
-    ensures { GivesTree boxed_stmt_shown stmt_depth (room + 1) t.now at result (sync_stmt (parsers room) (stmt_parsers room) (drop at t.now)) }
+    ensures { GivesForm t.now at room result sync_stmt }
 {
     let on = head_at(alloc, t, at, room, SYNCHRONIZED)?;
     let block = body(alloc, t, on.end, room)?;
@@ -60,11 +60,21 @@ fn fixed(alloc: Global, t: &[Tok], at: usize) -> Result<Taken<Option<Tok>>, Memo
     }
 }
 
-/// A catch clause (JLS 14.20).
-#[cycle(stmt)]
-#[tactic(auto, unfolding(crate::specs::StmtReads::catch_part, rf_jexpr::specs::Reads::and_then))]
-fn catch_part(alloc: Global, t: &[Tok], at: usize, room: u32) -> Result<Found<Catch>, ParseErr>
-    ensures gives { GivesTree catch_shown catch_depth room t.now at result (catch_part (stmt_parsers room) (drop at t.now)) }
+/// A catch clause up to its block.
+#[derive(Drop)]
+pub(crate) struct CatchHead {
+    pub word: Tok,
+    pub left: Tok,
+    pub fixed: Option<Tok>,
+    pub name: Name,
+    pub id: Tok,
+    pub right: Tok,
+}
+
+/// `catch (..)` (JLS 14.20).
+#[tactic(auto, unfolding(crate::specs::StmtParts::catch_head, rf_jexpr::specs::Reads::and_then))]
+fn catch_head(alloc: Global, t: &[Tok], at: usize) -> Result<Taken<CatchHead>, ParseErr>
+    ensures gives { Gives catch_head_shown t.now at result (catch_head (drop at t.now)) }
     ensures forth { IfOk result (λ x. at < x.end) }
 {
     let word = take(alloc, t, at, Want::Key(CATCH))?;
@@ -73,11 +83,30 @@ fn catch_part(alloc: Global, t: &[Tok], at: usize, room: u32) -> Result<Found<Ca
     let sort = name(alloc, t, fixed.end)?;
     let id = take(alloc, t, sort.end, Want::Ident)?;
     let right = take(alloc, t, id.end, Want::Op(RIGHT_PAREN))?;
-    let block = body(alloc, t, right.end, room)?;
+    Ok(Taken {
+        item: CatchHead {
+            word: word.item,
+            left: left.item,
+            fixed: fixed.item,
+            name: sort.item,
+            id: id.item,
+            right: right.item,
+        },
+        end: right.end,
+    })
+}
+
+/// A catch clause (JLS 14.20).
+#[cycle(stmt)]
+#[tactic(auto, unfolding(crate::specs::StmtReads::catch_part, rf_jexpr::specs::Reads::and_then))]
+fn catch_part(alloc: Global, t: &[Tok], at: usize, room: u32) -> Result<Found<Catch>, ParseErr>
+    ensures gives { GivesTree catch_shown catch_depth room t.now at result (catch_part (stmt_parsers room) (drop at t.now)) }
+    ensures forth { IfOk result (λ x. at < x.end) }
+{
+    let head = catch_head(alloc, t, at)?;
+    let block = body(alloc, t, head.end, room)?;
     Ok(Found {
-        tree: catch_of(
-            word.item, left.item, fixed.item, sort.item, id.item, right.item, block.tree,
-        ),
+        tree: catch_of(head.item, block.tree),
         end: block.end,
         depth: block.depth,
     })
@@ -108,13 +137,13 @@ fn last_part(
     t: &[Tok],
     at: usize,
     room: u32,
-) -> Result<Found<Option<(Tok, Block)>>, ParseErr>
+) -> Result<Found<Option<(Tok, Box<Block>)>>, ParseErr>
     ensures { GivesTree last_shown last_depth room t.now at result (last_part (stmt_parsers room) (drop at t.now)) }
 {
     let word = take(alloc, t, at, Want::Key(FINALLY))?;
     let block = body(alloc, t, word.end, room)?;
     Ok(Found {
-        tree: Some((word.item, block.tree)),
+        tree: Some((word.item, put(alloc, block.tree)?)),
         end: block.end,
         depth: block.depth,
     })
@@ -128,7 +157,7 @@ fn last(
     t: &[Tok],
     at: usize,
     room: u32,
-) -> Result<Found<Option<(Tok, Block)>>, ParseErr>
+) -> Result<Found<Option<(Tok, Box<Block>)>>, ParseErr>
     requires { at ≤ length t.now }
     ensures { GivesTree last_shown last_depth room t.now at result (last (stmt_parsers room) (drop at t.now)) }
 {
@@ -144,7 +173,7 @@ fn last(
 
 /// Whether a `try` has one of its other parts.
 #[tactic(auto, unfolding(crate::specs::StmtReads::has_part))]
-fn has_part(catches: &List<Catch>, last: &Option<(Tok, Block)>) -> bool
+fn has_part(catches: &List<Catch>, last: &Option<(Tok, Box<Block>)>) -> bool
     ensures { result ≡ has_part (catches_tree (catches_found catches.now)) (last_shown last.now) }
 {
     match catches.as_slice() {
@@ -162,7 +191,7 @@ pub(crate) fn try_stmt(
     at: usize,
     room: u32,
 ) -> Result<Found<Box<Stmt>>, ParseErr>
-    ensures { GivesTree boxed_stmt_shown stmt_depth (room + 1) t.now at result (try_stmt (stmt_parsers room) (drop at t.now)) }
+    ensures { GivesForm t.now at room result (λ p s. try_stmt s) }
 {
     let word = take(alloc, t, at, Want::Key(TRY))?;
     let block = body(alloc, t, word.end, room)?;

@@ -3,7 +3,7 @@
 
 use crate::exprs::{tell_bare, tell_beginning};
 use crate::tree_text::TreeText;
-use rf_jtree::{Expr, ForFirst, Local, Many, Mod, Strs, Tok, Var};
+use rf_jtree::{Expr, ForFirst, Head, Local, Many, Mod, Strs, Tok, Var};
 use rf_text::{List, Memory};
 
 // ---- modifiers and variables
@@ -107,7 +107,7 @@ pub(crate) fn tell_local(text: &mut TreeText, local: &Local) -> Result<(), Memor
 
 // ---- parts that may be left out
 
-pub(crate) fn tell_some(text: &mut TreeText, expr: &Option<Expr>) -> Result<(), Memory> {
+pub(crate) fn tell_some(text: &mut TreeText, expr: &Option<Box<Expr>>) -> Result<(), Memory> {
     match expr {
         Some(expr) => tell_bare(text, expr),
         None => Ok(()),
@@ -143,22 +143,16 @@ pub(crate) fn tell_first(text: &mut TreeText, first: &ForFirst) -> Result<(), Me
 }
 
 /// A keyword with an expression in parentheses behind it.
-pub(crate) fn tell_head(
-    text: &mut TreeText,
-    word: &Tok,
-    left: &Tok,
-    expr: &Expr,
-    right: &Tok,
-) -> Result<(), Memory> {
-    text.tok(word)?;
-    text.tok(left)?;
-    tell_bare(text, expr)?;
-    text.tok(right)
+pub(crate) fn tell_head(text: &mut TreeText, head: &Head) -> Result<(), Memory> {
+    text.tok(&head.word)?;
+    text.tok(&head.left)?;
+    tell_bare(text, &head.value)?;
+    text.tok(&head.right)
 }
 
 pub(crate) fn tell_message(
     text: &mut TreeText,
-    message: &Option<(Tok, Expr)>,
+    message: &Option<(Tok, Box<Expr>)>,
 ) -> Result<(), Memory> {
     match message {
         Some((colon, expr)) => {

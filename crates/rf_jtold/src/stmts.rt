@@ -6,7 +6,7 @@ use crate::parts::{
     tell_each, tell_first, tell_head, tell_local, tell_message, tell_mods, tell_some, tell_tok,
 };
 use crate::tree_text::TreeText;
-use rf_jtree::{Block, Catch, Group, Stmt, Tok};
+use rf_jtree::{Block, Catch, EachHead, ForHead, Group, Stmt, Tok};
 use rf_text::{Bytes, List, Memory};
 use std::alloc::Global;
 
@@ -34,40 +34,24 @@ fn tell_form(text: &mut TreeText, stmt: &Stmt) -> Result<(), Memory> {
             text.tok(colon)?;
             tell_stmt(text, body)
         }
-        Stmt::If {
-            word,
-            left,
-            test,
-            right,
-            then,
-            other,
-        } => {
-            tell_head(text, word, left, test, right)?;
+        Stmt::If { head, then, other } => {
+            tell_head(text, head)?;
             tell_stmt(text, then)?;
             tell_other(text, other)
         }
         Stmt::Switch {
-            word,
-            left,
-            on,
-            right,
+            head,
             brace,
             groups,
             end,
         } => {
-            tell_head(text, word, left, on, right)?;
+            tell_head(text, head)?;
             text.tok(brace)?;
             tell_groups(text, groups)?;
             text.tok(end)
         }
-        Stmt::Sync {
-            word,
-            left,
-            on,
-            right,
-            body,
-        } => {
-            tell_head(text, word, left, on, right)?;
+        Stmt::Sync { head, body } => {
+            tell_head(text, head)?;
             tell_block(text, body)
         }
         Stmt::Try {
@@ -88,74 +72,55 @@ fn tell_form(text: &mut TreeText, stmt: &Stmt) -> Result<(), Memory> {
 #[cycle(tell_stmt)]
 fn tell_loop(text: &mut TreeText, stmt: &Stmt) -> Result<(), Memory> {
     match stmt {
-        Stmt::While {
-            word,
-            left,
-            test,
-            right,
-            body,
-        } => {
-            tell_head(text, word, left, test, right)?;
+        Stmt::While { head, body } => {
+            tell_head(text, head)?;
             tell_stmt(text, body)
         }
         Stmt::Do {
             word,
             body,
             until,
-            left,
-            test,
-            right,
             semi,
         } => {
             text.tok(word)?;
             tell_stmt(text, body)?;
-            tell_head(text, until, left, test, right)?;
+            tell_head(text, until)?;
             text.tok(semi)
         }
-        Stmt::For {
-            word,
-            left,
-            first,
-            semi1,
-            test,
-            semi2,
-            last,
-            right,
-            body,
-        } => {
-            text.tok(word)?;
-            text.tok(left)?;
-            tell_first(text, first)?;
-            text.tok(semi1)?;
-            tell_some(text, test)?;
-            text.tok(semi2)?;
-            tell_each(text, last)?;
-            text.tok(right)?;
+        Stmt::For { head, body } => {
+            tell_for_head(text, head)?;
             tell_stmt(text, body)
         }
-        Stmt::Each {
-            word,
-            left,
-            mods,
-            sort,
-            id,
-            colon,
-            over,
-            right,
-            body,
-        } => {
-            text.tok(word)?;
-            text.tok(left)?;
-            tell_mods(text, mods)?;
-            text.sort(sort)?;
-            text.tok(id)?;
-            text.tok(colon)?;
-            tell_bare(text, over)?;
-            text.tok(right)?;
+        Stmt::Each { head, body } => {
+            tell_each_head(text, head)?;
             tell_stmt(text, body)
         }
         _ => tell_simple(text, stmt),
     }
+}
+
+/// A basic `for` up to its body.
+fn tell_for_head(text: &mut TreeText, head: &ForHead) -> Result<(), Memory> {
+    text.tok(&head.word)?;
+    text.tok(&head.left)?;
+    tell_first(text, &head.first)?;
+    text.tok(&head.semi1)?;
+    tell_some(text, &head.test)?;
+    text.tok(&head.semi2)?;
+    tell_each(text, &head.last)?;
+    text.tok(&head.right)
+}
+
+/// A `for` over what an expression gives, up to its body.
+fn tell_each_head(text: &mut TreeText, head: &EachHead) -> Result<(), Memory> {
+    text.tok(&head.word)?;
+    text.tok(&head.left)?;
+    tell_mods(text, &head.mods)?;
+    text.sort(&head.sort)?;
+    text.tok(&head.id)?;
+    text.tok(&head.colon)?;
+    tell_bare(text, &head.over)?;
+    text.tok(&head.right)
 }
 
 /// A statement with no statement in it.
@@ -271,7 +236,7 @@ fn tell_catches(text: &mut TreeText, catches: &List<Catch>) -> Result<(), Memory
 }
 
 #[cycle(tell_stmt)]
-fn tell_last(text: &mut TreeText, last: &Option<(Tok, Block)>) -> Result<(), Memory> {
+fn tell_last(text: &mut TreeText, last: &Option<(Tok, Box<Block>)>) -> Result<(), Memory> {
     match last {
         Some((word, block)) => {
             text.tok(word)?;

@@ -3,24 +3,23 @@ use Rattle.std.proofs.Common.{◌≡◌, List, [], ◌∷◌, Option, Some, None
 use Rattle.std.specs.declared.alloc.Global.{Global}
 use Rattle.std.specs.declared.boxed.Box.{Box}
 use Rattle.rf_jtree.specs.declared.exprs.Expr.{Expr}
-use Rattle.rf_jtree.specs.declared.names.Many.{Many}
-use Rattle.rf_jtree.specs.declared.names.Mod.{Mod}
-use Rattle.rf_jtree.specs.declared.names.TypeUse.{TypeUse}
 use Rattle.rf_jtree.specs.declared.stmts.Block.{Block, roll-Block, out-Block, fold-roll-Block, roll-out-Block}
 use Rattle.rf_jtree.specs.declared.stmts.Catch.{Catch, roll-Catch, out-Catch, fold-roll-Catch, roll-out-Catch}
-use Rattle.rf_jtree.specs.declared.stmts.ForFirst.{ForFirst}
+use Rattle.rf_jtree.specs.declared.stmts.EachHead.{EachHead}
+use Rattle.rf_jtree.specs.declared.stmts.ForHead.{ForHead}
 use Rattle.rf_jtree.specs.declared.stmts.Group.{Group, roll-Group, out-Group, fold-roll-Group, roll-out-Group}
+use Rattle.rf_jtree.specs.declared.stmts.Head.{Head}
 use Rattle.rf_jtree.specs.declared.stmts.Local.{Local}
 use Rattle.rf_jtree.specs.declared.stmts.Stmt.{Stmt, fold-roll-Stmt}
 use Rattle.rf_jtree.specs.declared.stmts.Stmt.TheOpen.{Stmt-F, Block-F, Catch-F, Group-F}
 use Rattle.rf_jtree.specs.declared.stmts.Stmt.TheVariants as s
 use Rattle.rf_jtree.specs.declared.tokens.Tok.{Tok}
-use Rattle.rf_jtree.specs.ExprShown.{expr_shown, exprs_shown}
-use Rattle.rf_jtree.specs.NameShown.{name_shown, type_shown, mods_shown}
+use Rattle.rf_jtree.specs.NameShown.{name_shown}
 use Rattle.rf_jtree.specs.StmtTrees.{StmtTree, BlockTree, CatchTree, GroupTree}
 use Rattle.rf_jtree.specs.StmtTrees as t
 use Rattle.rf_jtree.specs.StmtShown.{stmt_layer, block_layer, catch_layer, group_layer, stmts_tree, groups_tree, catches_tree}
-use Rattle.rf_jtree.specs.StmtShown.{local_shown, first_shown, message_shown, stmt_shown, block_shown, catch_shown, group_shown, stmts_shown, other_shown, groups_shown, catches_shown, last_shown}
+use Rattle.rf_jtree.specs.StmtShown.{boxed_expr_shown, optional_expr_shown, if_tree, while_tree, do_tree, for_tree, each_tree, switch_tree, sync_tree}
+use Rattle.rf_jtree.specs.StmtShown.{local_shown, message_shown, stmt_shown, block_shown, catch_shown, group_shown, stmts_shown, other_shown, groups_shown, catches_shown, last_shown}
 
 -- lists of parts, each shown
 stmts_shown-map : (stmts : List Stmt) → stmts_tree (map stmt_shown stmts) ≡ stmts_shown stmts
@@ -43,7 +42,7 @@ pub stmt_shown-Empty : (semi : Tok) → stmt_shown (s.Empty semi) ≡ t.Empty se
 unfolding stmt_shown
 stmt_shown-Empty semi = ap stmt_shown (sym (s.rolls-Empty semi)) ∙ fold-roll-Stmt StmtTree BlockTree CatchTree GroupTree stmt_layer block_layer catch_layer group_layer (Stmt-F.Empty semi)
 
-pub stmt_shown-Local : (local : Local) (semi : Tok) → stmt_shown (s.Local local semi) ≡ t.StmtTree.Local (local_shown local) semi
+pub stmt_shown-Local : (local : Box Local Global) (semi : Tok) → stmt_shown (s.Local local semi) ≡ t.StmtTree.Local (local_shown local.value) semi
 unfolding stmt_shown
 stmt_shown-Local local semi = ap stmt_shown (sym (s.rolls-Local local semi)) ∙ fold-roll-Stmt StmtTree BlockTree CatchTree GroupTree stmt_layer block_layer catch_layer group_layer (Stmt-F.Local local semi)
 
@@ -51,59 +50,59 @@ pub stmt_shown-Label : (id colon : Tok) (body : Box Stmt Global) → stmt_shown 
 unfolding stmt_shown
 stmt_shown-Label id colon body = ap stmt_shown (sym (s.rolls-Label id colon body)) ∙ fold-roll-Stmt StmtTree BlockTree CatchTree GroupTree stmt_layer block_layer catch_layer group_layer (Stmt-F.Label id colon body)
 
-pub stmt_shown-Value : (value : Expr) (semi : Tok) → stmt_shown (s.Value value semi) ≡ t.Value (expr_shown value) semi
+pub stmt_shown-Value : (value : Box Expr Global) (semi : Tok) → stmt_shown (s.Value value semi) ≡ t.Value (boxed_expr_shown value) semi
 unfolding stmt_shown
 stmt_shown-Value value semi = ap stmt_shown (sym (s.rolls-Value value semi)) ∙ fold-roll-Stmt StmtTree BlockTree CatchTree GroupTree stmt_layer block_layer catch_layer group_layer (Stmt-F.Value value semi)
 
-pub stmt_shown-If : (word left : Tok) (test : Expr) (right : Tok) (then : Box Stmt Global) (other : Option (Tok × Box Stmt Global)) → stmt_shown (s.If word left test right then other) ≡ t.If word left (expr_shown test) right (stmt_shown then.value) (other_shown other)
+pub stmt_shown-If : (head : Box Head Global) (then : Box Stmt Global) (other : Option (Tok × Box Stmt Global)) → stmt_shown (s.If head then other) ≡ if_tree head.value (stmt_shown then.value) (other_shown other)
 unfolding stmt_shown
-stmt_shown-If word left test right then None = ap stmt_shown (sym (s.rolls-If word left test right then None)) ∙ fold-roll-Stmt StmtTree BlockTree CatchTree GroupTree stmt_layer block_layer catch_layer group_layer (Stmt-F.If word left test right then None)
-stmt_shown-If word left test right then (Some other) = ap stmt_shown (sym (s.rolls-If word left test right then (Some other))) ∙ fold-roll-Stmt StmtTree BlockTree CatchTree GroupTree stmt_layer block_layer catch_layer group_layer (Stmt-F.If word left test right then (Some other))
+stmt_shown-If head then None = ap stmt_shown (sym (s.rolls-If head then None)) ∙ fold-roll-Stmt StmtTree BlockTree CatchTree GroupTree stmt_layer block_layer catch_layer group_layer (Stmt-F.If head then None)
+stmt_shown-If head then (Some other) = ap stmt_shown (sym (s.rolls-If head then (Some other))) ∙ fold-roll-Stmt StmtTree BlockTree CatchTree GroupTree stmt_layer block_layer catch_layer group_layer (Stmt-F.If head then (Some other))
 
-pub stmt_shown-While : (word left : Tok) (test : Expr) (right : Tok) (body : Box Stmt Global) → stmt_shown (s.While word left test right body) ≡ t.While word left (expr_shown test) right (stmt_shown body.value)
+pub stmt_shown-While : (head : Box Head Global) (body : Box Stmt Global) → stmt_shown (s.While head body) ≡ while_tree head.value (stmt_shown body.value)
 unfolding stmt_shown
-stmt_shown-While word left test right body = ap stmt_shown (sym (s.rolls-While word left test right body)) ∙ fold-roll-Stmt StmtTree BlockTree CatchTree GroupTree stmt_layer block_layer catch_layer group_layer (Stmt-F.While word left test right body)
+stmt_shown-While head body = ap stmt_shown (sym (s.rolls-While head body)) ∙ fold-roll-Stmt StmtTree BlockTree CatchTree GroupTree stmt_layer block_layer catch_layer group_layer (Stmt-F.While head body)
 
-pub stmt_shown-Do : (word : Tok) (body : Box Stmt Global) (until left : Tok) (test : Expr) (right semi : Tok) → stmt_shown (s.Do word body until left test right semi) ≡ t.Do word (stmt_shown body.value) until left (expr_shown test) right semi
+pub stmt_shown-Do : (word : Tok) (body : Box Stmt Global) (until : Box Head Global) (semi : Tok) → stmt_shown (s.Do word body until semi) ≡ do_tree word (stmt_shown body.value) until.value semi
 unfolding stmt_shown
-stmt_shown-Do word body until left test right semi = ap stmt_shown (sym (s.rolls-Do word body until left test right semi)) ∙ fold-roll-Stmt StmtTree BlockTree CatchTree GroupTree stmt_layer block_layer catch_layer group_layer (Stmt-F.Do word body until left test right semi)
+stmt_shown-Do word body until semi = ap stmt_shown (sym (s.rolls-Do word body until semi)) ∙ fold-roll-Stmt StmtTree BlockTree CatchTree GroupTree stmt_layer block_layer catch_layer group_layer (Stmt-F.Do word body until semi)
 
-pub stmt_shown-For : (word left : Tok) (first : ForFirst) (semi1 : Tok) (test : Option Expr) (semi2 : Tok) (last : Option (Many Expr)) (right : Tok) (body : Box Stmt Global) → stmt_shown (s.For word left first semi1 test semi2 last right body) ≡ t.For word left (first_shown first) semi1 (option_map expr_shown test) semi2 (exprs_shown last) right (stmt_shown body.value)
+pub stmt_shown-For : (head : Box ForHead Global) (body : Box Stmt Global) → stmt_shown (s.For head body) ≡ for_tree head.value (stmt_shown body.value)
 unfolding stmt_shown
-stmt_shown-For word left first semi1 test semi2 last right body = ap stmt_shown (sym (s.rolls-For word left first semi1 test semi2 last right body)) ∙ fold-roll-Stmt StmtTree BlockTree CatchTree GroupTree stmt_layer block_layer catch_layer group_layer (Stmt-F.For word left first semi1 test semi2 last right body)
+stmt_shown-For head body = ap stmt_shown (sym (s.rolls-For head body)) ∙ fold-roll-Stmt StmtTree BlockTree CatchTree GroupTree stmt_layer block_layer catch_layer group_layer (Stmt-F.For head body)
 
-pub stmt_shown-Each : (word left : Tok) (mods : List Mod) (sort : TypeUse) (id colon : Tok) (over : Expr) (right : Tok) (body : Box Stmt Global) → stmt_shown (s.Each word left mods sort id colon over right body) ≡ t.Each word left (mods_shown mods) (type_shown sort) id colon (expr_shown over) right (stmt_shown body.value)
+pub stmt_shown-Each : (head : Box EachHead Global) (body : Box Stmt Global) → stmt_shown (s.Each head body) ≡ each_tree head.value (stmt_shown body.value)
 unfolding stmt_shown
-stmt_shown-Each word left mods sort id colon over right body = ap stmt_shown (sym (s.rolls-Each word left mods sort id colon over right body)) ∙ fold-roll-Stmt StmtTree BlockTree CatchTree GroupTree stmt_layer block_layer catch_layer group_layer (Stmt-F.Each word left mods sort id colon over right body)
+stmt_shown-Each head body = ap stmt_shown (sym (s.rolls-Each head body)) ∙ fold-roll-Stmt StmtTree BlockTree CatchTree GroupTree stmt_layer block_layer catch_layer group_layer (Stmt-F.Each head body)
 
-pub stmt_shown-Switch : (word left : Tok) (on : Expr) (right brace : Tok) (groups : List Group) (end : Tok) → stmt_shown (s.Switch word left on right brace groups end) ≡ t.Switch word left (expr_shown on) right brace (groups_shown groups) end
+pub stmt_shown-Switch : (head : Box Head Global) (brace : Tok) (groups : List Group) (end : Tok) → stmt_shown (s.Switch head brace groups end) ≡ switch_tree head.value brace (groups_shown groups) end
 unfolding stmt_shown group_shown
-stmt_shown-Switch word left on right brace groups end = ap stmt_shown (sym (s.rolls-Switch word left on right brace groups end)) ∙ fold-roll-Stmt StmtTree BlockTree CatchTree GroupTree stmt_layer block_layer catch_layer group_layer (Stmt-F.Switch word left on right brace groups end) ∙ ap (λ shown. t.Switch word left (expr_shown on) right brace shown end) (groups_shown-map groups)
+stmt_shown-Switch head brace groups end = ap stmt_shown (sym (s.rolls-Switch head brace groups end)) ∙ fold-roll-Stmt StmtTree BlockTree CatchTree GroupTree stmt_layer block_layer catch_layer group_layer (Stmt-F.Switch head brace groups end) ∙ ap (λ shown. switch_tree head.value brace shown end) (groups_shown-map groups)
 
 pub stmt_shown-Jump : (word : Tok) (label : Option Tok) (semi : Tok) → stmt_shown (s.Jump word label semi) ≡ t.Jump word label semi
 unfolding stmt_shown
 stmt_shown-Jump word label semi = ap stmt_shown (sym (s.rolls-Jump word label semi)) ∙ fold-roll-Stmt StmtTree BlockTree CatchTree GroupTree stmt_layer block_layer catch_layer group_layer (Stmt-F.Jump word label semi)
 
-pub stmt_shown-Return : (word : Tok) (value : Option Expr) (semi : Tok) → stmt_shown (s.Return word value semi) ≡ t.Return word (option_map expr_shown value) semi
+pub stmt_shown-Return : (word : Tok) (value : Option (Box Expr Global)) (semi : Tok) → stmt_shown (s.Return word value semi) ≡ t.Return word (optional_expr_shown value) semi
 unfolding stmt_shown
 stmt_shown-Return word value semi = ap stmt_shown (sym (s.rolls-Return word value semi)) ∙ fold-roll-Stmt StmtTree BlockTree CatchTree GroupTree stmt_layer block_layer catch_layer group_layer (Stmt-F.Return word value semi)
 
-pub stmt_shown-Throw : (word : Tok) (value : Expr) (semi : Tok) → stmt_shown (s.Throw word value semi) ≡ t.Throw word (expr_shown value) semi
+pub stmt_shown-Throw : (word : Tok) (value : Box Expr Global) (semi : Tok) → stmt_shown (s.Throw word value semi) ≡ t.Throw word (boxed_expr_shown value) semi
 unfolding stmt_shown
 stmt_shown-Throw word value semi = ap stmt_shown (sym (s.rolls-Throw word value semi)) ∙ fold-roll-Stmt StmtTree BlockTree CatchTree GroupTree stmt_layer block_layer catch_layer group_layer (Stmt-F.Throw word value semi)
 
-pub stmt_shown-Sync : (word left : Tok) (on : Expr) (right : Tok) (body : Block) → stmt_shown (s.Sync word left on right body) ≡ t.Sync word left (expr_shown on) right (block_shown body)
+pub stmt_shown-Sync : (head : Box Head Global) (body : Box Block Global) → stmt_shown (s.Sync head body) ≡ sync_tree head.value (block_shown body.value)
 unfolding stmt_shown block_shown
-stmt_shown-Sync word left on right body = ap stmt_shown (sym (s.rolls-Sync word left on right body)) ∙ fold-roll-Stmt StmtTree BlockTree CatchTree GroupTree stmt_layer block_layer catch_layer group_layer (Stmt-F.Sync word left on right body)
+stmt_shown-Sync head body = ap stmt_shown (sym (s.rolls-Sync head body)) ∙ fold-roll-Stmt StmtTree BlockTree CatchTree GroupTree stmt_layer block_layer catch_layer group_layer (Stmt-F.Sync head body)
 
-pub stmt_shown-Assert : (word : Tok) (test : Expr) (message : Option (Tok × Expr)) (semi : Tok) → stmt_shown (s.Assert word test message semi) ≡ t.Assert word (expr_shown test) (option_map message_shown message) semi
+pub stmt_shown-Assert : (word : Tok) (test : Box Expr Global) (message : Option (Tok × Box Expr Global)) (semi : Tok) → stmt_shown (s.Assert word test message semi) ≡ t.Assert word (boxed_expr_shown test) (option_map message_shown message) semi
 unfolding stmt_shown
 stmt_shown-Assert word test message semi = ap stmt_shown (sym (s.rolls-Assert word test message semi)) ∙ fold-roll-Stmt StmtTree BlockTree CatchTree GroupTree stmt_layer block_layer catch_layer group_layer (Stmt-F.Assert word test message semi)
 
-pub stmt_shown-Try : (word : Tok) (body : Block) (catches : List Catch) (last : Option (Tok × Block)) → stmt_shown (s.Try word body catches last) ≡ t.Try word (block_shown body) (catches_shown catches) (last_shown last)
+pub stmt_shown-Try : (word : Tok) (body : Box Block Global) (catches : List Catch) (last : Option (Tok × Box Block Global)) → stmt_shown (s.Try word body catches last) ≡ t.Try word (block_shown body.value) (catches_shown catches) (last_shown last)
 unfolding stmt_shown block_shown catch_shown
-stmt_shown-Try word body catches None = ap stmt_shown (sym (s.rolls-Try word body catches None)) ∙ fold-roll-Stmt StmtTree BlockTree CatchTree GroupTree stmt_layer block_layer catch_layer group_layer (Stmt-F.Try word body catches None) ∙ ap (λ shown. t.Try word (block_shown body) shown t.NoLast) (catches_shown-map catches)
-stmt_shown-Try word body catches (Some last) = ap stmt_shown (sym (s.rolls-Try word body catches (Some last))) ∙ fold-roll-Stmt StmtTree BlockTree CatchTree GroupTree stmt_layer block_layer catch_layer group_layer (Stmt-F.Try word body catches (Some last)) ∙ ap (λ shown. t.Try word (block_shown body) shown (t.Last last.0 (block_shown last.1))) (catches_shown-map catches)
+stmt_shown-Try word body catches None = ap stmt_shown (sym (s.rolls-Try word body catches None)) ∙ fold-roll-Stmt StmtTree BlockTree CatchTree GroupTree stmt_layer block_layer catch_layer group_layer (Stmt-F.Try word body catches None) ∙ ap (λ shown. t.Try word (block_shown body.value) shown t.NoLast) (catches_shown-map catches)
+stmt_shown-Try word body catches (Some last) = ap stmt_shown (sym (s.rolls-Try word body catches (Some last))) ∙ fold-roll-Stmt StmtTree BlockTree CatchTree GroupTree stmt_layer block_layer catch_layer group_layer (Stmt-F.Try word body catches (Some last)) ∙ ap (λ shown. t.Try word (block_shown body.value) shown (t.Last last.0 (block_shown last.1.value))) (catches_shown-map catches)
 
 -- statements in braces
 block_shown-parts : (left : Tok) (list : List Stmt) (right : Tok) → block_shown (roll-Block record { left = left; list = list; right = right }) ≡ t.Braces left (stmts_shown list) right
@@ -125,14 +124,14 @@ pub catch_shown_out : (part : Catch) → catch_shown part ≡ t.Catch (out-Catch
 catch_shown_out part = ap catch_shown (sym (roll-out-Catch part)) ∙ catch_shown-roll (out-Catch part)
 
 -- groups of a `switch`
-group_shown-parts : (word : Tok) (value : Option Expr) (colon : Tok) (body : List Stmt) → group_shown (roll-Group record { word = word; value = value; colon = colon; body = body }) ≡ t.Group word (option_map expr_shown value) colon (stmts_shown body)
+group_shown-parts : (word : Tok) (value : Option (Box Expr Global)) (colon : Tok) (body : List Stmt) → group_shown (roll-Group record { word = word; value = value; colon = colon; body = body }) ≡ t.Group word (optional_expr_shown value) colon (stmts_shown body)
 unfolding stmt_shown group_shown
-group_shown-parts word value colon body = fold-roll-Group StmtTree BlockTree CatchTree GroupTree stmt_layer block_layer catch_layer group_layer record { word = word; value = value; colon = colon; body = body } ∙ ap (t.Group word (option_map expr_shown value) colon) (stmts_shown-map body)
+group_shown-parts word value colon body = fold-roll-Group StmtTree BlockTree CatchTree GroupTree stmt_layer block_layer catch_layer group_layer record { word = word; value = value; colon = colon; body = body } ∙ ap (t.Group word (optional_expr_shown value) colon) (stmts_shown-map body)
 
-pub group_shown-roll : (group : Group-F Stmt Block Catch Group) → group_shown (roll-Group group) ≡ t.Group group.word (option_map expr_shown group.value) group.colon (stmts_shown group.body)
+pub group_shown-roll : (group : Group-F Stmt Block Catch Group) → group_shown (roll-Group group) ≡ t.Group group.word (optional_expr_shown group.value) group.colon (stmts_shown group.body)
 group_shown-roll group = group_shown-parts group.word group.value group.colon group.body
 
-pub group_shown_out : (group : Group) → group_shown group ≡ t.Group (out-Group group).word (option_map expr_shown (out-Group group).value) (out-Group group).colon (stmts_shown (out-Group group).body)
+pub group_shown_out : (group : Group) → group_shown group ≡ t.Group (out-Group group).word (optional_expr_shown (out-Group group).value) (out-Group group).colon (stmts_shown (out-Group group).body)
 group_shown_out group = ap group_shown (sym (roll-out-Group group)) ∙ group_shown-roll (out-Group group)
 
 -- all of them

@@ -6,9 +6,12 @@ use Rattle.rf_jtree.specs.declared.exprs.Expr.{Expr}
 use Rattle.rf_jtree.specs.declared.exprs.Init.{Init}
 use Rattle.rf_jtree.specs.declared.stmts.Block.{Block, fold-Block}
 use Rattle.rf_jtree.specs.declared.stmts.Catch.{Catch, fold-Catch}
+use Rattle.rf_jtree.specs.declared.stmts.EachHead.{EachHead}
 use Rattle.rf_jtree.specs.declared.stmts.ForFirst.{ForFirst}
 use Rattle.rf_jtree.specs.declared.stmts.ForFirst.TheVariants as f
+use Rattle.rf_jtree.specs.declared.stmts.ForHead.{ForHead}
 use Rattle.rf_jtree.specs.declared.stmts.Group.{Group, fold-Group}
+use Rattle.rf_jtree.specs.declared.stmts.Head.{Head}
 use Rattle.rf_jtree.specs.declared.stmts.Local.{Local}
 use Rattle.rf_jtree.specs.declared.stmts.Stmt.{Stmt, fold-Stmt}
 use Rattle.rf_jtree.specs.declared.stmts.Stmt.TheOpen.{Stmt-F, Block-F, Catch-F, Group-F}
@@ -37,9 +40,40 @@ abbrev pub first_shown : ForFirst → ForFirstTree
 first_shown (f.Local local) = t.ForFirstTree.Local (local_shown local)
 first_shown (f.Exprs exprs) = t.ForFirstTree.Exprs (exprs_shown exprs)
 
+-- an expression behind a pointer, and one that may be left out
+abbrev pub boxed_expr_shown : Box Expr Global → ExprTree
+boxed_expr_shown boxed = expr_shown boxed.value
+
+abbrev pub optional_expr_shown : Option (Box Expr Global) → Option ExprTree
+optional_expr_shown value = option_map boxed_expr_shown value
+
 -- the second expression of an `assert`
-abbrev pub message_shown : Tok × Expr → Tok × ExprTree
-message_shown message = (message.0, expr_shown message.1)
+abbrev pub message_shown : Tok × Box Expr Global → Tok × ExprTree
+message_shown message = (message.0, boxed_expr_shown message.1)
+
+-- statements of what stands before their bodies
+abbrev pub if_tree : Head → StmtTree → OtherTree → StmtTree
+if_tree head then other = t.If head.word head.left (boxed_expr_shown head.value) head.right then other
+
+abbrev pub while_tree : Head → StmtTree → StmtTree
+while_tree head body = t.While head.word head.left (boxed_expr_shown head.value) head.right body
+
+abbrev pub do_tree : Tok → StmtTree → Head → Tok → StmtTree
+do_tree word body until semi = t.Do word body until.word until.left (boxed_expr_shown until.value) until.right semi
+
+abbrev pub for_tree : ForHead → StmtTree → StmtTree
+for_tree head body =
+    t.For head.word head.left (first_shown head.first) head.semi1 (optional_expr_shown head.test) head.semi2 (exprs_shown head.last) head.right body
+
+abbrev pub each_tree : EachHead → StmtTree → StmtTree
+each_tree head body =
+    t.Each head.word head.left (mods_shown head.mods) (type_shown head.sort) head.id head.colon (boxed_expr_shown head.over) head.right body
+
+abbrev pub switch_tree : Head → Tok → GroupsTree → Tok → StmtTree
+switch_tree head brace groups end = t.Switch head.word head.left (boxed_expr_shown head.value) head.right brace groups end
+
+abbrev pub sync_tree : Head → BlockTree → StmtTree
+sync_tree head body = t.Sync head.word head.left (boxed_expr_shown head.value) head.right body
 
 -- lists, and parts that may be left out, of trees
 abbrev pub stmts_tree : List StmtTree → StmtsTree
@@ -58,31 +92,29 @@ abbrev pub catches_tree : List CatchTree → CatchesTree
 catches_tree [] = t.NoCatches
 catches_tree (first ∷ rest) = t.Catches first (catches_tree rest)
 
-abbrev pub last_tree : Option (Tok × BlockTree) → LastTree
+abbrev pub last_tree : Option (Tok × Box BlockTree Global) → LastTree
 last_tree None = t.NoLast
-last_tree (Some last) = t.Last last.0 last.1
+last_tree (Some last) = t.Last last.0 last.1.value
 
 -- the layers
 abbrev pub stmt_layer : Stmt-F StmtTree BlockTree CatchTree GroupTree → StmtTree
 stmt_layer (Stmt-F.Block block) = t.Block block
 stmt_layer (Stmt-F.Empty semi) = t.Empty semi
-stmt_layer (Stmt-F.Local local semi) = t.StmtTree.Local (local_shown local) semi
+stmt_layer (Stmt-F.Local local semi) = t.StmtTree.Local (local_shown local.value) semi
 stmt_layer (Stmt-F.Label id colon body) = t.Label id colon body.value
-stmt_layer (Stmt-F.Value value semi) = t.Value (expr_shown value) semi
-stmt_layer (Stmt-F.If word left test right then other) = t.If word left (expr_shown test) right then.value (other_tree other)
-stmt_layer (Stmt-F.While word left test right body) = t.While word left (expr_shown test) right body.value
-stmt_layer (Stmt-F.Do word body until left test right semi) = t.Do word body.value until left (expr_shown test) right semi
-stmt_layer (Stmt-F.For word left first semi1 test semi2 last right body) =
-    t.For word left (first_shown first) semi1 (option_map expr_shown test) semi2 (exprs_shown last) right body.value
-stmt_layer (Stmt-F.Each word left mods sort id colon over right body) =
-    t.Each word left (mods_shown mods) (type_shown sort) id colon (expr_shown over) right body.value
-stmt_layer (Stmt-F.Switch word left on right brace groups end) = t.Switch word left (expr_shown on) right brace (groups_tree groups) end
+stmt_layer (Stmt-F.Value value semi) = t.Value (boxed_expr_shown value) semi
+stmt_layer (Stmt-F.If head then other) = if_tree head.value then.value (other_tree other)
+stmt_layer (Stmt-F.While head body) = while_tree head.value body.value
+stmt_layer (Stmt-F.Do word body until semi) = do_tree word body.value until.value semi
+stmt_layer (Stmt-F.For head body) = for_tree head.value body.value
+stmt_layer (Stmt-F.Each head body) = each_tree head.value body.value
+stmt_layer (Stmt-F.Switch head brace groups end) = switch_tree head.value brace (groups_tree groups) end
 stmt_layer (Stmt-F.Jump word label semi) = t.Jump word label semi
-stmt_layer (Stmt-F.Return word value semi) = t.Return word (option_map expr_shown value) semi
-stmt_layer (Stmt-F.Throw word value semi) = t.Throw word (expr_shown value) semi
-stmt_layer (Stmt-F.Sync word left on right body) = t.Sync word left (expr_shown on) right body
-stmt_layer (Stmt-F.Assert word test message semi) = t.Assert word (expr_shown test) (option_map message_shown message) semi
-stmt_layer (Stmt-F.Try word body catches last) = t.Try word body (catches_tree catches) (last_tree last)
+stmt_layer (Stmt-F.Return word value semi) = t.Return word (optional_expr_shown value) semi
+stmt_layer (Stmt-F.Throw word value semi) = t.Throw word (boxed_expr_shown value) semi
+stmt_layer (Stmt-F.Sync head body) = sync_tree head.value body.value
+stmt_layer (Stmt-F.Assert word test message semi) = t.Assert word (boxed_expr_shown test) (option_map message_shown message) semi
+stmt_layer (Stmt-F.Try word body catches last) = t.Try word body.value (catches_tree catches) (last_tree last)
 
 abbrev pub block_layer : Block-F StmtTree BlockTree CatchTree GroupTree → BlockTree
 block_layer block = t.Braces block.left (stmts_tree block.list) block.right
@@ -91,7 +123,7 @@ abbrev pub catch_layer : Catch-F StmtTree BlockTree CatchTree GroupTree → Catc
 catch_layer part = t.Catch part.word part.left part.fixed (name_shown part.name) part.id part.right part.body
 
 abbrev pub group_layer : Group-F StmtTree BlockTree CatchTree GroupTree → GroupTree
-group_layer group = t.Group group.word (option_map expr_shown group.value) group.colon (stmts_tree group.body)
+group_layer group = t.Group group.word (optional_expr_shown group.value) group.colon (stmts_tree group.body)
 
 -- the trees
 unfoldable pub stmt_shown : Stmt → StmtTree
@@ -123,6 +155,6 @@ abbrev pub catches_shown : List Catch → CatchesTree
 catches_shown [] = t.NoCatches
 catches_shown (first ∷ rest) = t.Catches (catch_shown first) (catches_shown rest)
 
-abbrev pub last_shown : Option (Tok × Block) → LastTree
+abbrev pub last_shown : Option (Tok × Box Block Global) → LastTree
 last_shown None = t.NoLast
-last_shown (Some last) = t.Last last.0 (block_shown last.1)
+last_shown (Some last) = t.Last last.0 (block_shown last.1.value)

@@ -24,7 +24,7 @@ pub use identifiers::{is_identifier, is_letter, is_letter_or_digit, is_word, kin
 pub use java_path::is_java_path;
 pub use names::{Dims, Dotted, Many, Mod, Name, Strs, TypeBase, TypeUse};
 pub use operators::{Op, every_operator_is_found, operator, operators_are_found};
-pub use stmts::{Block, Catch, ForFirst, Group, Local, Stmt, Var};
+pub use stmts::{Block, Catch, EachHead, ForFirst, ForHead, Group, Head, Local, Stmt, Var};
 pub use token_spans::{spans, spans_are_texts};
 pub use tokens::{Tok, TokKind, Toks};
 pub use words::{Kw, every_keyword_is_found, keyword, keywords_are_found};

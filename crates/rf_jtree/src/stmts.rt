@@ -33,12 +33,47 @@ pub enum ForFirst {
     Exprs(Option<Many<Expr>>),
 }
 
+/// A keyword with an expression in parentheses behind it, as `if`, `while`, `switch` and `synchronized` have it.
+#[derive(Drop)]
+pub struct Head {
+    pub word: Tok,
+    pub left: Tok,
+    pub value: Box<Expr>,
+    pub right: Tok,
+}
+
+/// A basic `for` up to its body (JLS 14.14.1).
+#[derive(Drop)]
+pub struct ForHead {
+    pub word: Tok,
+    pub left: Tok,
+    pub first: ForFirst,
+    pub semi1: Tok,
+    pub test: Option<Box<Expr>>,
+    pub semi2: Tok,
+    pub last: Option<Many<Expr>>,
+    pub right: Tok,
+}
+
+/// A `for` over what an expression gives, up to its body (JLS 14.14.2).
+#[derive(Drop)]
+pub struct EachHead {
+    pub word: Tok,
+    pub left: Tok,
+    pub mods: List<Mod>,
+    pub sort: TypeUse,
+    pub id: Tok,
+    pub colon: Tok,
+    pub over: Box<Expr>,
+    pub right: Tok,
+}
+
 /// `case value:` or `default:` with the statements up to the next one (JLS 14.11).
 #[cycle(stmt)]
 #[derive(Drop)]
 pub struct Group {
     pub word: Tok,
-    pub value: Option<Expr>,
+    pub value: Option<Box<Expr>>,
     pub colon: Tok,
     pub body: List<Stmt>,
 }
@@ -57,86 +92,57 @@ pub struct Catch {
     pub body: Block,
 }
 
-/// A statement (JLS 14).
+/// A statement (JLS 14). What is large stands behind a pointer, since lists hold statements themselves.
 #[cycle(stmt)]
 #[derive(Drop)]
 pub enum Stmt {
     Block(Block),
     Empty(Tok),
-    Local(Local, Tok),
+    Local(Box<Local>, Tok),
     Label(Tok, Tok, Box<Stmt>),
-    Value(Expr, Tok),
+    Value(Box<Expr>, Tok),
     If {
-        word: Tok,
-        left: Tok,
-        test: Expr,
-        right: Tok,
+        head: Box<Head>,
         then: Box<Stmt>,
         other: Option<(Tok, Box<Stmt>)>,
     },
     While {
-        word: Tok,
-        left: Tok,
-        test: Expr,
-        right: Tok,
+        head: Box<Head>,
         body: Box<Stmt>,
     },
     Do {
         word: Tok,
         body: Box<Stmt>,
-        until: Tok,
-        left: Tok,
-        test: Expr,
-        right: Tok,
+        until: Box<Head>,
         semi: Tok,
     },
     For {
-        word: Tok,
-        left: Tok,
-        first: ForFirst,
-        semi1: Tok,
-        test: Option<Expr>,
-        semi2: Tok,
-        last: Option<Many<Expr>>,
-        right: Tok,
+        head: Box<ForHead>,
         body: Box<Stmt>,
     },
     Each {
-        word: Tok,
-        left: Tok,
-        mods: List<Mod>,
-        sort: TypeUse,
-        id: Tok,
-        colon: Tok,
-        over: Expr,
-        right: Tok,
+        head: Box<EachHead>,
         body: Box<Stmt>,
     },
     Switch {
-        word: Tok,
-        left: Tok,
-        on: Expr,
-        right: Tok,
+        head: Box<Head>,
         brace: Tok,
         groups: List<Group>,
         end: Tok,
     },
     /// `break` or `continue`, with a label or without.
     Jump(Tok, Option<Tok>, Tok),
-    Return(Tok, Option<Expr>, Tok),
-    Throw(Tok, Expr, Tok),
+    Return(Tok, Option<Box<Expr>>, Tok),
+    Throw(Tok, Box<Expr>, Tok),
     Sync {
-        word: Tok,
-        left: Tok,
-        on: Expr,
-        right: Tok,
-        body: Block,
+        head: Box<Head>,
+        body: Box<Block>,
     },
-    Assert(Tok, Expr, Option<(Tok, Expr)>, Tok),
+    Assert(Tok, Box<Expr>, Option<(Tok, Box<Expr>)>, Tok),
     Try {
         word: Tok,
-        body: Block,
+        body: Box<Block>,
         catches: List<Catch>,
-        last: Option<(Tok, Block)>,
+        last: Option<(Tok, Box<Block>)>,
     },
 }

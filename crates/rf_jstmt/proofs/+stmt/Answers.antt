@@ -1,5 +1,5 @@
 -- What stands behind the last part ends its loop, and the readers of a whole room are told by those of the room that is left.
-use Rattle.std.proofs.Common.{◌≡◌, ◌+◌, ◌-◌, drop, true, false, refl, ap, ◌∙◌, sym, arith}
+use Rattle.std.proofs.Common.{◌≡◌, ◌+◌, ◌-◌, ◌≤◌, ◌<◌, drop, length, true, false, refl, ap, ◌∙◌, sym, arith}
 use Rattle.rf_jtree.specs.StmtTrees.{stmts_depth}
 use Rattle.rf_jexpr.specs.Reads.{and_then}
 use Rattle.rf_jexpr.proofs.GrowthLemmas.{first-filling, next-filling, last-filling}
@@ -11,27 +11,31 @@ use Rattle.rf_jstmt.proofs.+stmt.Goals as goal
 
 -- ---- lists of parts
 
-pub blocks::next_stmt-returns-clause-forth : goal.blocks::next_stmt-returns-clause-forth
-blocks::next_stmt-returns-clause-forth t c =
-    let found = c.in_ok-found.ensures in
-    block_stmt-forth c.args.room c.args.at _ c.args.t.now _ found.0 found.2
-
 pub blocks::stmts-items-init : goal.blocks::stmts-items-init
 blocks::stmts-items-init t c = first-filling _ _ _ _ _ _ _ c.new.ensures c.requires
 
 pub blocks::stmts-items-preserved : goal.blocks::stmts-items-preserved
 blocks::stmts-items-preserved t c =
     let tried = rw c.in-Some.is at c.in_ok-next.ensures in
-    let taken = rw tried at c.next_stmt.ensures.gives in
-    let forth = rw tried at c.next_stmt.ensures.forth in
+    let taken = rw tried at c.block_stmt.ensures in
+    let forth = block_stmt-forth c.args.room c.items.list.end _ c.args.t.now _ taken.0 taken.2 in
     let grown = c.in_ok-list.ensures in
-    rw grown.1 (next-filling _ _ _ _ _ _ _ _ _ c.in-Some.next.tree c.in-Some.next.end c.in-Some.next.depth _ _ c.items.invariant taken.0 forth taken.2 taken.3 taken.4 grown.0 grown.2)
+    rw grown.1 (next-filling _ _ _ _ _ _ _ _ _ c.in-Some.next.tree.value c.in-Some.next.end c.in-Some.next.depth _ _ c.items.invariant taken.0 forth taken.2 taken.3 taken.4 grown.0 grown.2)
+
+pub blocks::stmts-items-smaller : goal.blocks::stmts-items-smaller
+blocks::stmts-items-smaller t c =
+    let tried = rw c.in-Some.is at c.in_ok-next.ensures in
+    let taken = rw tried at c.block_stmt.ensures in
+    let forth : c.items.list.end < c.in-Some.next.end = block_stmt-forth c.args.room c.items.list.end c.in-Some.next.end c.args.t.now _ taken.0 taken.2 in
+    let end : c.in_ok-list.list.end ≡ c.in-Some.next.end = c.in_ok-list.ensures.1 in
+    let within : c.in-Some.next.end ≤ length c.args.t.now = taken.2 in
+    omega arith
 
 pub blocks::stmts-returns : goal.blocks::stmts-returns
 unfolding stmts and_then
 blocks::stmts-returns t c =
     let missing = rw c.in_default.is at c.in_ok-next.ensures in
-    let nothing = rw missing at c.next_stmt.ensures.gives in
+    let nothing = rw missing at c.block_stmt.ensures in
     let filling = c.items.invariant in
     let read = last-filling _ _ _ _ _ _ _ _ _ filling nothing in
     (rw (read, stmts-shown) refl, filling.turn.forth, filling.turn.within, filling.depth_is ∙ sym (stmts-depth _) ∙ ap stmts_depth (stmts-shown c.items.list.tree), filling.shallow)
@@ -42,15 +46,15 @@ branches::groups-items-init t c = first-filling _ _ _ _ _ _ _ c.new.ensures c.re
 pub branches::groups-items-preserved : goal.branches::groups-items-preserved
 branches::groups-items-preserved t c =
     let tried = rw c.in-Some.is at c.in_ok-next.ensures in
-    let taken = rw tried at c.next_group.ensures.gives in
-    let forth = rw tried at c.next_group.ensures.forth in
+    let taken = rw tried at c.group.ensures.gives in
+    let forth = rw tried at c.group.ensures.forth in
     let grown = c.in_ok-list.ensures in
     rw grown.1 (next-filling _ _ _ _ _ _ _ _ _ c.in-Some.next.tree c.in-Some.next.end c.in-Some.next.depth _ _ c.items.invariant taken.0 forth taken.2 taken.3 taken.4 grown.0 grown.2)
 
 pub branches::groups-returns : goal.branches::groups-returns
 branches::groups-returns t c =
     let missing = rw c.in_default.is at c.in_ok-next.ensures in
-    let nothing = rw missing at c.next_group.ensures.gives in
+    let nothing = rw missing at c.group.ensures.gives in
     let filling = c.items.invariant in
     (last-filling _ _ _ _ _ _ _ _ _ filling nothing, filling.turn.forth, filling.turn.within, filling.depth_is ∙ sym (groups-depth _), filling.shallow)
 

@@ -6,16 +6,24 @@ use Rattle.rf_jexpr.proofs.GrowthLemmas.{IsFilling}
 use Rattle.rf_jstmt.specs.StmtReads.{stmt_parsers, group, catch_part}
 use Rattle.rf_jstmt.proofs.+stmt.Given as goal
 
--- A function of a whole room calls those of the same room that come before it, and of the room that is left for parts any.
+-- Each measure is 20 for each room and the place of the function in its room: a function calls those of the same room that
+-- have a lower place, and any of a smaller room. The places:
+--
+--    0  stmt             1  block_stmt (both give what is left for parts to the rest)
+--    2  labeled, other_part, while_stmt, do_stmt, basic_for, each_for
+--    3  other, local_for, stmts
+--    4  if_stmt, for_stmt, body, case_group, default_group
+--    5  block_alone, sync_stmt, group, catch_part, last_part
+--    6  catches, last
+--    7  groups, try_stmt
+--    8  switch_stmt
+--   10  by_word         11  any_stmt
 
 abbrev pub decreases-blocks::block_alone : goal.decreases-blocks::block_alone
 decreases-blocks::block_alone l = 20 * l.room + 5
 
 abbrev pub decreases-blocks::body : goal.decreases-blocks::body
 decreases-blocks::body l = 20 * l.room + 4
-
-abbrev pub decreases-blocks::next_stmt : goal.decreases-blocks::next_stmt
-decreases-blocks::next_stmt l = 20 * l.room + 2
 
 abbrev pub decreases-blocks::stmts : goal.decreases-blocks::stmts
 decreases-blocks::stmts l = 20 * l.room + 3
@@ -37,9 +45,6 @@ decreases-branches::if_stmt l = 20 * l.room + 4
 
 abbrev pub decreases-branches::labeled : goal.decreases-branches::labeled
 decreases-branches::labeled l = 20 * l.room + 2
-
-abbrev pub decreases-branches::next_group : goal.decreases-branches::next_group
-decreases-branches::next_group l = 20 * l.room + 6
 
 abbrev pub decreases-branches::other : goal.decreases-branches::other
 decreases-branches::other l = 20 * l.room + 3

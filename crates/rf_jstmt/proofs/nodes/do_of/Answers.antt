@@ -2,4 +2,4 @@ use Rattle.rf_jtree.proofs.StmtShows.{stmt_shown-Do}
 use Rattle.rf_jstmt.proofs.nodes.do_of.Goals as goal
 
 pub returns : goal.returns
-returns c = rw (stmt_shown-Do, c.into_inner.ensures) at c.boxed.ensures
+returns c = rw stmt_shown-Do at c.boxed.ensures

@@ -2,4 +2,4 @@ use Rattle.rf_jtree.proofs.StmtShows.{stmt_shown-Each}
 use Rattle.rf_jstmt.proofs.nodes.each_of.Goals as goal
 
 pub returns : goal.returns
-returns c = rw (stmt_shown-Each, c.into_inner.ensures) at c.boxed.ensures
+returns c = rw stmt_shown-Each at c.boxed.ensures

@@ -3,4 +3,4 @@ use Rattle.rf_jtree.proofs.StmtShows.{group_shown-roll}
 use Rattle.rf_jstmt.proofs.nodes.group_of.Goals as goal
 
 pub returns : goal.returns
-returns c = rw (group_shown-roll, c.unboxed.ensures) refl
+returns c = rw group_shown-roll refl

@@ -3,4 +3,4 @@ use Rattle.rf_jstmt.proofs.ListShows.{groups-shown}
 use Rattle.rf_jstmt.proofs.nodes.switch_of.Goals as goal
 
 pub returns : goal.returns
-returns c = rw groups-shown (rw (stmt_shown-Switch, c.into_inner.ensures) at c.boxed.ensures)
+returns c = rw groups-shown (rw stmt_shown-Switch at c.boxed.ensures)

@@ -3,4 +3,4 @@ use Rattle.rf_jstmt.proofs.ListShows.{catches-shown}
 use Rattle.rf_jstmt.proofs.nodes.try_of.Goals as goal
 
 pub returns : goal.returns
-returns c = rw catches-shown (rw stmt_shown-Try at c.boxed.ensures)
+returns c = rw catches-shown (rw (stmt_shown-Try, c.in_ok-body.ensures) at c.boxed.ensures)

@@ -1,5 +1,0 @@
-use Rattle.rf_jtree.proofs.StmtShows.{stmt_shown-Assert}
-use Rattle.rf_jstmt.proofs.simple_nodes.asserted_with.Goals as goal
-
-pub returns : goal.returns
-returns c = rw (stmt_shown-Assert, c.into_inner.ensures, c.into_inner-2.ensures) at c.boxed.ensures
