@@ -1,4 +1,5 @@
 pub mod Apart
 pub mod Distinct
 pub mod Listing
+pub mod StreamLemmas
 pub mod Written

@@ -14,6 +14,7 @@ mod real_paths;
 mod real_sink;
 mod real_world;
 mod sink;
+mod streams;
 #[cfg(test)]
 mod tests;
 mod world;

@@ -1,16 +1,14 @@
-//! The files of the system, read and written whole.
+//! The files of the system, opened, and read and written whole.
 
 use crate::WorldErr;
 use crate::real_paths::{fault, full_path};
+use crate::streams::{read_whole, write_whole};
 use rf_text::Bytes;
 use std::alloc::Global;
 use std::fs::OpenFile;
-use std::io::{ErrorKind, Read, Write};
+use std::io::ErrorKind;
 use std::rt::Files;
 use std::{fs, io};
-
-/// The most bytes of a file that is read.
-const MOST_BYTES: u64 = 1_073_741_824;
 
 /// The bytes of the file, up to where no byte comes.
 pub(crate) fn read<R: Files>(
@@ -22,15 +20,7 @@ pub(crate) fn read<R: Files>(
     let path = full_path(alloc, root, path)?;
     let file = fs::open(rt, path.as_str()).map_err(fault)?;
     let size = file.metadata().map_or(0, |metadata| metadata.len());
-    // One more than the file's size, so that its end is found with no further room.
-    let mut bytes = Vec::with_capacity(alloc, size.min(MOST_BYTES) as usize + 1)?;
-    let count = file
-        .take(MOST_BYTES + 1)
-        .read_to_end(&mut bytes)
-        .map_err(fault)?;
-    if count as u64 > MOST_BYTES {
-        return Err(WorldErr::Failed);
-    }
+    let bytes = read_whole(alloc, file, size)?;
     Ok(Bytes::from_vec(alloc, bytes)?)
 }
 
@@ -44,7 +34,7 @@ pub(crate) fn write<R: Files>(
 ) -> Result<(), WorldErr> {
     let path = full_path(alloc, root, path)?;
     let mut file = create(rt, path.as_str()).map_err(fault)?;
-    file.write_all(bytes).map_err(fault)
+    write_whole(&mut file, bytes)
 }
 
 fn create<R: Files>(rt: &R, path: &str) -> io::Result<R::File> {
