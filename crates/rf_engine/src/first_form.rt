@@ -59,6 +59,3 @@ pub fn first_path(
         None => Ok(FirstPath::NotYet),
     }
 }
-
-#[cfg(test)]
-mod tests;
