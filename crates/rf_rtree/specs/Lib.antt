@@ -1,3 +1,4 @@
+pub mod Accesses
 pub mod Asks
 pub mod Compared
 pub mod Faults

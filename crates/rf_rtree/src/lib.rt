@@ -1,6 +1,7 @@
 //! Programs of the rule language, and what it means that one has no kind fault.
 #![tactic(auto)]
 
+mod checked;
 mod copies;
 mod faults;
 mod forms;
@@ -9,6 +10,7 @@ mod language;
 mod tables;
 mod words;
 
+pub use checked::Checked;
 pub use copies::Copied;
 pub use faults::KindFault;
 pub use forms::{Comp, Quant, RForm, RTerm};
