@@ -1,5 +1,0 @@
-//! Kind faults of small programs.
-#![tactic(auto)]
-
-#[cfg(test)]
-mod kinds;
