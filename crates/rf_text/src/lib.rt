@@ -10,8 +10,6 @@ mod names;
 mod order;
 mod short;
 mod span;
-#[cfg(test)]
-mod tests;
 
 pub use boxed::Boxed;
 pub use bytes::Bytes;
