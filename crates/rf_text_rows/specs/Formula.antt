@@ -1,5 +1,5 @@
 -- What a formula means: `True` holds, `Not` of a formula where that doesn't, `All` where each of them does.
-use Rattle.std.specs.Prelude.{Bool, true, false, not, ◌&&◌, List, [], ◌∷◌}
+use Rattle.std.specs.Prelude.{Bool, true, not, ◌&&◌, List, [], ◌∷◌}
 use Rattle.rf_text_rows.specs.declared.formula.Formula.{Formula, fold-Formula}
 use Rattle.rf_text_rows.specs.declared.formula.Formula.TheOpen.{Formula-F, True, Not, All}
 
