@@ -58,7 +58,8 @@ fn begins(var: &Var) -> bool
 }
 
 fn more_vars_begin(rest: &[(Tok, Var)]) -> bool
-    ensures { IsTrue result ↔ EachFits (λ (item : Tok × VarTree). IsSome item.1.init) (more_vars_shown rest.now) }
+    ensures { IsTrue result ↔ EachFits (λ (item : Tok × VarTree). IsSome item.1.init)
+        (more_vars_shown rest.now) }
 {
     match rest {
         [] => true,
@@ -73,7 +74,8 @@ fn each_begins(vars: &Many<Var>) -> bool
 }
 
 fn is_interface_field(mods: &List<Mod>, vars: &Many<Var>) -> bool
-    ensures { IsTrue result ↔ IsInterfaceField (mods_shown mods.now) (many_shown var_shown vars.now) }
+    ensures { IsTrue result ↔ IsInterfaceField (mods_shown mods.now)
+        (many_shown var_shown vars.now) }
 {
     each_begins(vars) && is_visible(mods)
 }

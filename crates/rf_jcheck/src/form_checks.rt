@@ -24,7 +24,8 @@ pub(crate) fn is_assign(left: &Expr, op: &Tok) -> bool
 }
 
 pub(crate) fn is_cond(test: &Expr, mark: &Tok, colon: &Tok, other: &Expr) -> bool
-    ensures { IsTrue result ↔ IsCond (expr_shown test.now) mark.now colon.now (expr_shown other.now) }
+    ensures { IsTrue result ↔ IsCond (expr_shown test.now) mark.now colon.now
+        (expr_shown other.now) }
 {
     binds_at(OR_OR_LEVEL, test)
         && is_op(mark, QUESTION)
@@ -59,7 +60,8 @@ fn begins_with_operand(expr: &Expr) -> bool
 }
 
 fn cast_takes(sort: &TypeUse, operand: &Expr) -> bool
-    ensures { IsTrue result ↔ CastTakes (type_shown sort.now).base (type_shown sort.now).dims.list (expr_yield (expr_shown operand.now)) }
+    ensures { IsTrue result ↔ CastTakes (type_shown sort.now).base (type_shown sort.now).dims.list
+        (expr_yield (expr_shown operand.now)) }
 {
     match &sort.base {
         TypeBase::Prim(_) => match sort.dims.list.as_slice() {
@@ -71,7 +73,8 @@ fn cast_takes(sort: &TypeUse, operand: &Expr) -> bool
 }
 
 pub(crate) fn is_cast(left: &Tok, sort: &TypeUse, right: &Tok, value: &Expr) -> bool
-    ensures { IsTrue result ↔ IsCast left.now (type_shown sort.now) right.now (expr_shown value.now) }
+    ensures { IsTrue result ↔ IsCast left.now (type_shown sort.now) right.now
+        (expr_shown value.now) }
 {
     are_parens(left, right) && binds_at(UNARY_LEVEL, value) && cast_takes(sort, value)
 }

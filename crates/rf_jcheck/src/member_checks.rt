@@ -78,7 +78,8 @@ fn body_fits(body: &Body) -> bool
 }
 
 fn is_callable(id: &Tok, params: &Params, throws: &Option<(Tok, Many<Name>)>) -> bool
-    ensures { IsTrue result ↔ IsCallable id.now (params_shown params.now) (option_map names_shown throws.now) }
+    ensures { IsTrue result ↔ IsCallable id.now (params_shown params.now)
+        (option_map names_shown throws.now) }
 {
     is_ident(id) && params_fit(params) && names_fit(THROWS, throws)
 }
@@ -91,7 +92,9 @@ fn is_ctor(
     call: &Option<CtorCall>,
     right: &Tok,
 ) -> bool
-    ensures { IsTrue result ↔ IsCtor id.now (params_shown params.now) (option_map names_shown throws.now) left.now (option_map ctor_call_shown call.now) right.now }
+    ensures { IsTrue result ↔ IsCtor id.now (params_shown params.now)
+        (option_map names_shown throws.now) left.now (option_map ctor_call_shown call.now)
+        right.now }
 {
     is_callable(id, params, throws) && are_braces(left, right) && ctor_call_fits(call)
 }

@@ -40,7 +40,8 @@ pub(crate) fn is_visible(mods: &List<Mod>) -> bool
 }
 
 fn more_names_fit(rest: &[(Tok, Name)]) -> bool
-    ensures { IsTrue result ↔ EachFits (λ item. IsOp COMMA item.0 × NameFits item.1) (more_names_shown rest.now) }
+    ensures { IsTrue result ↔ EachFits (λ item. IsOp COMMA item.0 × NameFits item.1)
+        (more_names_shown rest.now) }
 {
     match rest {
         [] => true,
@@ -74,7 +75,8 @@ fn param_fits(param: &Param) -> bool
 }
 
 fn more_params_fit(rest: &[(Tok, Param)]) -> bool
-    ensures { IsTrue result ↔ EachFits (λ item. IsOp COMMA item.0 × ParamFits item.1) (more_params_shown rest.now) }
+    ensures { IsTrue result ↔ EachFits (λ item. IsOp COMMA item.0 × ParamFits item.1)
+        (more_params_shown rest.now) }
 {
     match rest {
         [] => true,
@@ -89,7 +91,8 @@ fn many_params_fit(params: &Many<Param>) -> bool
 }
 
 fn param_list_fits(list: &Option<Many<Param>>) -> bool
-    ensures { IsTrue result ↔ IfSome (option_map (many_shown param_shown) list.now) (ManyFit ParamFits COMMA) }
+    ensures { IsTrue result ↔ IfSome (option_map (many_shown param_shown) list.now)
+        (ManyFit ParamFits COMMA) }
 {
     match list {
         None => true,

@@ -112,7 +112,8 @@ fn is_same_mod(one: &Mod, other: &Mod) -> bool
 }
 
 fn is_new_to(one: &Mod, others: &[Mod]) -> bool
-    ensures { IsTrue result ↔ EachFits (λ other. is_same_mod (mod_shown one.now) other ≡ false) (mods_shown others.now) }
+    ensures { IsTrue result ↔ EachFits (λ other. is_same_mod (mod_shown one.now) other ≡ false)
+        (mods_shown others.now) }
 {
     match others {
         [] => true,

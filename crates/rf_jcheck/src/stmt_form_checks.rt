@@ -36,7 +36,8 @@ pub(crate) fn is_value(value: &Expr, semi: &Tok) -> bool
 }
 
 pub(crate) fn is_if(head: &Head, then: &Stmt, other: &Option<(Tok, Box<Stmt>)>) -> bool
-    ensures { IsTrue result ↔ IsIf head.now.word head.now.left head.now.right (stmt_shown then.now) (other_shown other.now) }
+    ensures { IsTrue result ↔ IsIf head.now.word head.now.left head.now.right (stmt_shown then.now)
+        (other_shown other.now) }
 {
     is_head(IF, &head.word, &head.left, &head.right)
         && is_nearest_if(then, other)
@@ -44,13 +45,15 @@ pub(crate) fn is_if(head: &Head, then: &Stmt, other: &Option<(Tok, Box<Stmt>)>) 
 }
 
 pub(crate) fn is_while(head: &Head, body: &Stmt) -> bool
-    ensures { IsTrue result ↔ IsWhile head.now.word head.now.left head.now.right (stmt_shown body.now) }
+    ensures { IsTrue result ↔ IsWhile head.now.word head.now.left head.now.right
+        (stmt_shown body.now) }
 {
     is_head(WHILE, &head.word, &head.left, &head.right) && is_no_local(body)
 }
 
 pub(crate) fn is_do(word: &Tok, body: &Stmt, until: &Head, semi: &Tok) -> bool
-    ensures { IsTrue result ↔ IsDo word.now (stmt_shown body.now) until.now.word until.now.left until.now.right semi.now }
+    ensures { IsTrue result ↔ IsDo word.now (stmt_shown body.now) until.now.word until.now.left
+        until.now.right semi.now }
 {
     is_key(word, DO)
         && is_no_local(body)
@@ -59,7 +62,8 @@ pub(crate) fn is_do(word: &Tok, body: &Stmt, until: &Head, semi: &Tok) -> bool
 }
 
 pub(crate) fn is_for(head: &ForHead, body: &Stmt) -> bool
-    ensures { IsTrue result ↔ IsFor head.now.word head.now.left head.now.semi1 head.now.semi2 (exprs_shown head.now.last) head.now.right (stmt_shown body.now) }
+    ensures { IsTrue result ↔ IsFor head.now.word head.now.left head.now.semi1 head.now.semi2
+        (exprs_shown head.now.last) head.now.right (stmt_shown body.now) }
 {
     is_head(FOR, &head.word, &head.left, &head.right)
         && is_op(&head.semi1, SEMICOLON)
@@ -69,7 +73,8 @@ pub(crate) fn is_for(head: &ForHead, body: &Stmt) -> bool
 }
 
 pub(crate) fn is_each(head: &EachHead, body: &Stmt) -> bool
-    ensures { IsTrue result ↔ IsEach head.now.word head.now.left (mods_shown head.now.mods) head.now.id head.now.colon head.now.right (stmt_shown body.now) }
+    ensures { IsTrue result ↔ IsEach head.now.word head.now.left (mods_shown head.now.mods)
+        head.now.id head.now.colon head.now.right (stmt_shown body.now) }
 {
     is_head(FOR, &head.word, &head.left, &head.right)
         && variable_mods_fit(&head.mods)
@@ -79,7 +84,8 @@ pub(crate) fn is_each(head: &EachHead, body: &Stmt) -> bool
 }
 
 pub(crate) fn is_switch(head: &Head, brace: &Tok, end: &Tok) -> bool
-    ensures { IsTrue result ↔ IsSwitch head.now.word head.now.left head.now.right brace.now end.now }
+    ensures { IsTrue result ↔ IsSwitch head.now.word head.now.left head.now.right brace.now
+        end.now }
 {
     is_head(SWITCH, &head.word, &head.left, &head.right) && are_braces(brace, end)
 }

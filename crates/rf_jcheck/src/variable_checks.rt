@@ -57,7 +57,8 @@ fn var_fits(var: &Var) -> bool
 }
 
 fn more_vars_fit(rest: &[(Tok, Var)]) -> bool
-    ensures { IsTrue result ↔ EachFits (λ (item : Tok × VarTree). IsOp COMMA item.0 × VarFits item.1) (more_vars_shown rest.now) }
+    ensures { IsTrue result ↔ EachFits (λ (item : Tok × VarTree). IsOp COMMA item.0 × VarFits
+        item.1) (more_vars_shown rest.now) }
 {
     match rest {
         [] => true,

@@ -32,7 +32,8 @@ fn ctor_word(alloc: Global, t: &[Tok], at: usize) -> Result<Taken<Tok>, ParseErr
 /// `this(..);` or `super(..);` (JLS 8.8.7.1).
 #[tactic(auto, unfolding(crate::specs::MemberReads::ctor_call, rf_jexpr::specs::Reads::and_then))]
 fn ctor_call(alloc: Global, t: &[Tok], at: usize, room: u32) -> Result<Found<CtorCall>, ParseErr>
-    ensures { GivesTree ctor_call_shown call_depth room t.now at result (ctor_call room (drop at t.now)) }
+    ensures { GivesTree ctor_call_shown call_depth room t.now at result
+        (ctor_call room (drop at t.now)) }
 {
     let word = ctor_word(alloc, t, at)?;
     let list = args(alloc, t, word.end, room)?;
@@ -58,7 +59,8 @@ fn some_call(
     room: u32,
 ) -> Result<Found<Option<CtorCall>>, Memory>
     requires { at ≤ length t.now }
-    ensures { IfOk result (IsFound (option_map ctor_call_shown) some_call_depth room t.now at (optional (ctor_call room) (drop at t.now))) }
+    ensures { IfOk result (IsFound (option_map ctor_call_shown) some_call_depth room t.now at
+        (optional (ctor_call room) (drop at t.now))) }
 {
     match attempt(ctor_call(alloc, t, at, room))? {
         Some(found) => Ok(Found {
@@ -95,7 +97,8 @@ fn are_ctor_mods(mods: &[Mod]) -> bool
 /// The name of a constructor, where its modifiers may stand (JLS 8.8.3).
 #[tactic(auto, unfolding(rf_jexpr::specs::Reads::when))]
 fn ctor_id(alloc: Global, t: &[Tok], at: usize, mods: &[Mod]) -> Result<Taken<Tok>, ParseErr>
-    ensures { Gives (λ tok. tok) t.now at result (when (list_all is_ctor_mod (mods_shown mods.now)) (token is_ident (drop at t.now))) }
+    ensures { Gives (λ tok. tok) t.now at result
+        (when (list_all is_ctor_mod (mods_shown mods.now)) (token is_ident (drop at t.now))) }
 {
     if !are_ctor_mods(mods) {
         return Err(ParseErr::NoTree);
@@ -112,7 +115,8 @@ pub(crate) fn ctor(
     room: u32,
     mods: List<Mod>,
 ) -> Result<Found<Member>, ParseErr>
-    ensures { GivesTree member_shown member_depth room t.now at result (ctor room (mods_shown mods) (drop at t.now)) }
+    ensures { GivesTree member_shown member_depth room t.now at result
+        (ctor room (mods_shown mods) (drop at t.now)) }
 {
     let id = ctor_id(alloc, t, at, mods.as_slice())?;
     let list = params(alloc, t, id.end)?;

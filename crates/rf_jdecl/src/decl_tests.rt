@@ -107,7 +107,8 @@ fn is_one_name(names: &Option<(Tok, Many<Name>)>) -> bool
 }
 
 fn takes_as_class(decl: &TypeDecl) -> bool
-    ensures { result ≡ (test.is_one_name (decl_shown decl.now).extends && list_all test.class_takes (decl_shown decl.now).members) }
+    ensures { result ≡ (test.is_one_name (decl_shown decl.now).extends && list_all test.class_takes
+        (decl_shown decl.now).members) }
 {
     is_one_name(&decl.extends) && class_takes_each(decl.members.as_slice())
 }
@@ -121,7 +122,8 @@ fn is_class(decl: &TypeDecl) -> bool
 
 /// Whether the method is neither static nor less than public (JLS 9.4).
 fn is_visible_object(mods: &[Mod]) -> bool
-    ensures { result ≡ (not (has_word_of (STATIC ∷ []) (mods_shown mods.now)) && test.is_visible (mods_shown mods.now)) }
+    ensures { result ≡ (not (has_word_of (STATIC ∷ []) (mods_shown mods.now)) && test.is_visible
+        (mods_shown mods.now)) }
 {
     !has_word_of(mods, &[STATIC]) && is_visible(mods)
 }
@@ -148,7 +150,8 @@ fn each_begins(rest: &[(Tok, Var)]) -> bool
 }
 
 fn each_begins_visible(mods: &[Mod], rest: &[(Tok, Var)]) -> bool
-    ensures { result ≡ (list_all test.begins_with_some (more_vars_shown rest.now) && test.is_visible (mods_shown mods.now)) }
+    ensures { result ≡ (list_all test.begins_with_some (more_vars_shown rest.now) && test.is_visible
+        (mods_shown mods.now)) }
 {
     each_begins(rest) && is_visible(mods)
 }
@@ -156,7 +159,8 @@ fn each_begins_visible(mods: &[Mod], rest: &[(Tok, Var)]) -> bool
 /// Whether each of the fields begins with something and is public (JLS 9.3, 9.3.1).
 #[tactic(auto, unfolding(crate::specs::DeclTests::is_interface_field))]
 fn is_interface_field(mods: &[Mod], vars: &Many<Var>) -> bool
-    ensures { result ≡ test.is_interface_field (mods_shown mods.now) (many_shown var_shown vars.now) }
+    ensures { result ≡ test.is_interface_field (mods_shown mods.now)
+        (many_shown var_shown vars.now) }
 {
     vars.first.init.is_some() && each_begins_visible(mods, vars.rest.as_slice())
 }
@@ -181,7 +185,8 @@ fn interface_takes_each(members: &[Member]) -> bool
 }
 
 fn takes_as_interface(decl: &TypeDecl) -> bool
-    ensures { result ≡ (is_none (decl_shown decl.now).implements && list_all test.interface_takes (decl_shown decl.now).members) }
+    ensures { result ≡ (is_none (decl_shown decl.now).implements && list_all test.interface_takes
+        (decl_shown decl.now).members) }
 {
     decl.implements.is_none() && interface_takes_each(decl.members.as_slice())
 }
@@ -194,7 +199,8 @@ fn is_interface(decl: &TypeDecl) -> bool
 }
 
 fn is_class_or_interface(decl: &TypeDecl) -> bool
-    ensures { result ≡ (test.is_class (decl_shown decl.now) || test.is_interface (decl_shown decl.now)) }
+    ensures { result ≡ (test.is_class (decl_shown decl.now) || test.is_interface
+        (decl_shown decl.now)) }
 {
     is_class(decl) || is_interface(decl)
 }

@@ -65,7 +65,8 @@ pub(crate) fn type_decl(
     room: u32,
 ) -> Result<Found<TypeDecl>, ParseErr>
     requires { at ≤ length t.now }
-    ensures { GivesTree decl_shown decl_depth room t.now at result (type_decl room (drop at t.now)) }
+    ensures { GivesTree decl_shown decl_depth room t.now at result
+        (type_decl room (drop at t.now)) }
 {
     let decl = any_decl(alloc, t, at, room)?;
     if !decl_fits(&decl.tree) {

@@ -22,7 +22,8 @@ pub(crate) fn field(
     mods: List<Mod>,
     sort: TypeUse,
 ) -> Result<Found<Member>, ParseErr>
-    ensures { GivesTree member_shown member_depth room t.now at result (field room (mods_shown mods) (type_shown sort) (drop at t.now)) }
+    ensures { GivesTree member_shown member_depth room t.now at result
+        (field room (mods_shown mods) (type_shown sort) (drop at t.now)) }
 {
     let list = vars(alloc, t, at, room)?;
     let semi = take(alloc, t, list.end, Want::Op(SEMICOLON))?;

@@ -41,7 +41,8 @@ pub(crate) fn begins_callable(t: &[Tok], at: usize) -> bool
 
 /// Whether `static` and `{` stand there.
 fn begins_static(t: &[Tok], at: usize) -> bool
-    ensures { result ≡ (begins (is_key STATIC) (drop at t.now) && goes_on_with (is_op LEFT_BRACE) (drop at t.now)) }
+    ensures { result ≡ (begins (is_key STATIC) (drop at t.now) && goes_on_with (is_op LEFT_BRACE)
+        (drop at t.now)) }
 {
     is_at(t, at, Want::Key(STATIC)) && goes_on_with(t, at, Want::Op(LEFT_BRACE))
 }

@@ -35,7 +35,8 @@ pub(crate) fn fitting_mods(
 /// A comma and a name.
 #[tactic(auto, unfolding(rf_jexpr::specs::Reads::behind, rf_jexpr::specs::Reads::and_then))]
 fn next_name(alloc: Global, t: &[Tok], at: usize) -> Result<Taken<(Tok, Name)>, ParseErr>
-    ensures gives { Gives name_item_shown t.now at result (behind (is_op COMMA) name (drop at t.now)) }
+    ensures gives { Gives name_item_shown t.now at result
+        (behind (is_op COMMA) name (drop at t.now)) }
     ensures forth { IfOk result (λ x. at < x.end) }
 {
     let comma = take(alloc, t, at, Want::Op(COMMA))?;
@@ -50,7 +51,8 @@ fn next_name(alloc: Global, t: &[Tok], at: usize) -> Result<Taken<(Tok, Name)>, 
 #[tactic(auto, using(crate::proofs::CodeLemmas::shown_turns))]
 fn more_names(alloc: Global, t: &[Tok], at: usize) -> Result<Taken<List<(Tok, Name)>>, Memory>
     requires { at ≤ length t.now }
-    ensures { IfOk result (IsTaken more_names_shown t.now at (many (behind (is_op COMMA) name) (drop at t.now))) }
+    ensures { IfOk result (IsTaken more_names_shown t.now at
+        (many (behind (is_op COMMA) name) (drop at t.now))) }
 {
     let mut list = List::new(alloc);
     let mut end = at;
@@ -105,7 +107,8 @@ pub(crate) fn some_names(
     key: Kw,
 ) -> Result<Taken<Option<(Tok, Many<Name>)>>, Memory>
     requires { at ≤ length t.now }
-    ensures { IfOk result (IsTaken (option_map names_shown) t.now at (optional (names_behind key) (drop at t.now))) }
+    ensures { IfOk result (IsTaken (option_map names_shown) t.now at
+        (optional (names_behind key) (drop at t.now))) }
 {
     match attempt(names_behind(alloc, t, at, key))? {
         Some(found) => Ok(Taken {
@@ -144,7 +147,8 @@ fn param(alloc: Global, t: &[Tok], at: usize) -> Result<Taken<Param>, ParseErr>
 /// A comma and a parameter.
 #[tactic(auto, unfolding(rf_jexpr::specs::Reads::behind, rf_jexpr::specs::Reads::and_then))]
 fn next_param(alloc: Global, t: &[Tok], at: usize) -> Result<Taken<(Tok, Param)>, ParseErr>
-    ensures gives { Gives param_item_shown t.now at result (behind (is_op COMMA) param (drop at t.now)) }
+    ensures gives { Gives param_item_shown t.now at result
+        (behind (is_op COMMA) param (drop at t.now)) }
     ensures forth { IfOk result (λ x. at < x.end) }
 {
     let comma = take(alloc, t, at, Want::Op(COMMA))?;
@@ -159,7 +163,8 @@ fn next_param(alloc: Global, t: &[Tok], at: usize) -> Result<Taken<(Tok, Param)>
 #[tactic(auto, using(crate::proofs::CodeLemmas::shown_turns))]
 fn more_params(alloc: Global, t: &[Tok], at: usize) -> Result<Taken<List<(Tok, Param)>>, Memory>
     requires { at ≤ length t.now }
-    ensures { IfOk result (IsTaken more_params_shown t.now at (many (behind (is_op COMMA) param) (drop at t.now))) }
+    ensures { IfOk result (IsTaken more_params_shown t.now at
+        (many (behind (is_op COMMA) param) (drop at t.now))) }
 {
     let mut list = List::new(alloc);
     let mut end = at;
@@ -174,7 +179,8 @@ fn more_params(alloc: Global, t: &[Tok], at: usize) -> Result<Taken<List<(Tok, P
 #[tactic(auto, unfolding(rf_jexpr::specs::Reads::separated, rf_jexpr::specs::Reads::and_then))]
 fn many_params(alloc: Global, t: &[Tok], at: usize) -> Result<Taken<Many<Param>>, ParseErr>
     requires { at ≤ length t.now }
-    ensures { Gives (many_shown param_shown) t.now at result (separated COMMA param (drop at t.now)) }
+    ensures { Gives (many_shown param_shown) t.now at result
+        (separated COMMA param (drop at t.now)) }
 {
     let first = param(alloc, t, at)?;
     let rest = more_params(alloc, t, first.end)?;
@@ -192,7 +198,8 @@ fn many_params(alloc: Global, t: &[Tok], at: usize) -> Result<Taken<Many<Param>>
 #[tactic(auto, unfolding(rf_jexpr::specs::Reads::optional, rf_jexpr::specs::Reads::and_then, rf_jexpr::specs::Reads::or_else))]
 fn some_params(alloc: Global, t: &[Tok], at: usize) -> Result<Taken<Option<Many<Param>>>, Memory>
     requires { at ≤ length t.now }
-    ensures { IfOk result (IsTaken (option_map (many_shown param_shown)) t.now at (optional (separated COMMA param) (drop at t.now))) }
+    ensures { IfOk result (IsTaken (option_map (many_shown param_shown)) t.now at
+        (optional (separated COMMA param) (drop at t.now))) }
 {
     match attempt(many_params(alloc, t, at))? {
         Some(found) => Ok(Taken {

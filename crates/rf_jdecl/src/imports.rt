@@ -105,7 +105,8 @@ pub(crate) fn some_package(
     at: usize,
 ) -> Result<Taken<Option<(Tok, Name, Tok)>>, Memory>
     requires { at ≤ length t.now }
-    ensures { IfOk result (IsTaken (option_map package_shown) t.now at (optional package_clause (drop at t.now))) }
+    ensures { IfOk result (IsTaken (option_map package_shown) t.now at
+        (optional package_clause (drop at t.now))) }
 {
     match attempt(package_clause(alloc, t, at))? {
         Some(clause) => Ok(Taken {

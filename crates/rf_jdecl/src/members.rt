@@ -38,7 +38,8 @@ fn stray(alloc: Global, t: &[Tok], at: usize, room: u32) -> Result<Found<Member>
 #[tactic(auto, unfolding(rf_jexpr::specs::Reads::optional, rf_jexpr::specs::Reads::and_then, rf_jexpr::specs::Reads::or_else))]
 fn some_static(alloc: Global, t: &[Tok], at: usize) -> Result<Taken<Option<Tok>>, Memory>
     requires { at ≤ length t.now }
-    ensures { IfOk result (IsTaken (λ word. word) t.now at (optional (token (is_key STATIC)) (drop at t.now))) }
+    ensures { IfOk result (IsTaken (λ word. word) t.now at
+        (optional (token (is_key STATIC)) (drop at t.now))) }
 {
     match attempt(take(alloc, t, at, Want::Key(STATIC)))? {
         Some(word) => Ok(Taken {
@@ -56,7 +57,8 @@ fn some_static(alloc: Global, t: &[Tok], at: usize) -> Result<Taken<Option<Tok>>
 #[tactic(auto, unfolding(crate::specs::MemberReads::initializer, rf_jexpr::specs::Reads::and_then))]
 fn initializer(alloc: Global, t: &[Tok], at: usize, room: u32) -> Result<Found<Member>, ParseErr>
     requires { at ≤ length t.now }
-    ensures { GivesTree member_shown member_depth room t.now at result (initializer room (drop at t.now)) }
+    ensures { GivesTree member_shown member_depth room t.now at result
+        (initializer room (drop at t.now)) }
 {
     let word = some_static(alloc, t, at)?;
     let block = body(alloc, t, word.end, room)?;
@@ -80,7 +82,8 @@ fn typed(
     room: u32,
     mods: List<Mod>,
 ) -> Result<Found<Member>, ParseErr>
-    ensures { GivesTree member_shown member_depth room t.now at result (typed room (mods_shown mods) (drop at t.now)) }
+    ensures { GivesTree member_shown member_depth room t.now at result
+        (typed room (mods_shown mods) (drop at t.now)) }
 {
     let sort = type_use(alloc, t, at)?;
     if begins_callable(t, sort.end) {
@@ -98,7 +101,8 @@ fn behind_mods(
     room: u32,
     mods: List<Mod>,
 ) -> Result<Found<Member>, ParseErr>
-    ensures { GivesTree member_shown member_depth room t.now at result (behind_mods room (mods_shown mods) (drop at t.now)) }
+    ensures { GivesTree member_shown member_depth room t.now at result
+        (behind_mods room (mods_shown mods) (drop at t.now)) }
 {
     if begins_callable(t, at) {
         return ctor(alloc, t, at, room, mods);
@@ -113,7 +117,8 @@ fn behind_mods(
 #[tactic(auto, unfolding(crate::specs::MemberReads::modified, rf_jexpr::specs::Reads::and_then))]
 fn modified(alloc: Global, t: &[Tok], at: usize, room: u32) -> Result<Found<Member>, ParseErr>
     requires { at ≤ length t.now }
-    ensures { GivesTree member_shown member_depth room t.now at result (modified room (drop at t.now)) }
+    ensures { GivesTree member_shown member_depth room t.now at result
+        (modified room (drop at t.now)) }
 {
     let found = fitting_mods(alloc, t, at)?;
     behind_mods(alloc, t, found.end, room, found.item)
@@ -123,7 +128,8 @@ fn modified(alloc: Global, t: &[Tok], at: usize, room: u32) -> Result<Found<Memb
 #[tactic(auto, unfolding(crate::specs::MemberReads::member))]
 fn member(alloc: Global, t: &[Tok], at: usize, room: u32) -> Result<Found<Member>, ParseErr>
     requires { at ≤ length t.now }
-    ensures { GivesTree member_shown member_depth room t.now at result (member room (drop at t.now)) }
+    ensures { GivesTree member_shown member_depth room t.now at result
+        (member room (drop at t.now)) }
 {
     if is_at(t, at, Want::Op(SEMICOLON)) {
         return stray(alloc, t, at, room);
@@ -137,7 +143,8 @@ fn member(alloc: Global, t: &[Tok], at: usize, room: u32) -> Result<Found<Member
 /// The same, and that it has a token at least.
 fn next_member(alloc: Global, t: &[Tok], at: usize, room: u32) -> Result<Found<Member>, ParseErr>
     requires { at ≤ length t.now }
-    ensures gives { GivesTree member_shown member_depth room t.now at result (member room (drop at t.now)) }
+    ensures gives { GivesTree member_shown member_depth room t.now at result
+        (member room (drop at t.now)) }
     ensures forth { IfOk result (λ x. at < x.end) }
 {
     member(alloc, t, at, room)
@@ -151,7 +158,8 @@ pub(crate) fn members(
     room: u32,
 ) -> Result<Found<List<Member>>, Memory>
     requires { at ≤ length t.now }
-    ensures { IfOk result (IsFound members_shown (list_depth member_depth) room t.now at (members room (drop at t.now))) }
+    ensures { IfOk result (IsFound members_shown (list_depth member_depth) room t.now at
+        (members room (drop at t.now))) }
 {
     let mut list = Found {
         tree: List::new(alloc),

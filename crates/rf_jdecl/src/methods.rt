@@ -44,7 +44,8 @@ pub(crate) fn method(
     mods: List<Mod>,
     ret: Ret,
 ) -> Result<Found<Member>, ParseErr>
-    ensures { GivesTree member_shown member_depth room t.now at result (method room (mods_shown mods) (ret_shown ret) (drop at t.now)) }
+    ensures { GivesTree member_shown member_depth room t.now at result
+        (method room (mods_shown mods) (ret_shown ret) (drop at t.now)) }
 {
     let id = take(alloc, t, at, Want::Ident)?;
     let list = params(alloc, t, id.end)?;
@@ -74,7 +75,8 @@ pub(crate) fn void_method(
     room: u32,
     mods: List<Mod>,
 ) -> Result<Found<Member>, ParseErr>
-    ensures { GivesTree member_shown member_depth room t.now at result (void_method room (mods_shown mods) (drop at t.now)) }
+    ensures { GivesTree member_shown member_depth room t.now at result
+        (void_method room (mods_shown mods) (drop at t.now)) }
 {
     let word = take(alloc, t, at, Want::Key(VOID))?;
     method(alloc, t, word.end, room, mods, Ret::Void(word.item))

@@ -20,7 +20,8 @@ use std::alloc::Global;
 #[tactic(auto, using(rf_jexpr::proofs::TurnLemmas::turns))]
 fn semis(alloc: Global, t: &[Tok], at: usize) -> Result<Taken<List<Tok>>, Memory>
     requires { at ≤ length t.now }
-    ensures { IfOk result (IsTaken (λ list. list) t.now at (many (token (is_op SEMICOLON)) (drop at t.now))) }
+    ensures { IfOk result (IsTaken (λ list. list) t.now at
+        (many (token (is_op SEMICOLON)) (drop at t.now))) }
 {
     let mut list = List::new(alloc);
     let mut end = at;
@@ -35,7 +36,8 @@ fn semis(alloc: Global, t: &[Tok], at: usize) -> Result<Taken<List<Tok>>, Memory
 #[tactic(auto, unfolding(crate::specs::UnitReads::front_unit, rf_jexpr::specs::Reads::and_then))]
 fn front_unit(alloc: Global, t: &[Tok], at: usize, room: u32) -> Result<Found<Unit>, ParseErr>
     requires { at ≤ length t.now }
-    ensures { GivesTree unit_shown unit_depth room t.now at result (front_unit room (drop at t.now)) }
+    ensures { GivesTree unit_shown unit_depth room t.now at result
+        (front_unit room (drop at t.now)) }
 {
     let clause = some_package(alloc, t, at)?;
     let imports = imports_at(alloc, t, clause.end)?;

@@ -39,7 +39,8 @@ fn binary_op(
     least: usize,
     left: &Expr,
 ) -> Result<Taken<Tok>, ParseErr>
-    ensures gives { Gives (λ tok. tok) t.now at result (token (takes_left least (expr_shown left.now)) (drop at t.now)) }
+    ensures gives { Gives (λ tok. tok) t.now at result
+        (token (takes_left least (expr_shown left.now)) (drop at t.now)) }
     ensures forth { IfOk result (λ x. at < x.end) }
 {
     let Some(tok) = tok_at(t, at) else {
@@ -69,7 +70,9 @@ fn instance(
 ) -> Result<Found<Tail>, ParseErr>
     requires known { IsKnown value.now }
     requires small { value.now.depth < 2 ^ 62 }
-    ensures gives { GivesTree (operated (boxed_shown value.now.tree)) expr_depth (value.now.depth + 1) t.now value.now.end result (instance least (boxed_shown value.now.tree) (drop value.now.end t.now)) }
+    ensures gives { GivesTree (operated (boxed_shown value.now.tree)) expr_depth
+        (value.now.depth + 1) t.now value.now.end result
+        (instance least (boxed_shown value.now.tree) (drop value.now.end t.now)) }
     ensures deeper { IfOk result (λ x. value.now.depth < x.depth) }
 {
     if COMPARISON_LEVEL < least || expr_level(&*value.tree) < COMPARISON_LEVEL {
@@ -97,7 +100,9 @@ fn operation(
 ) -> Result<Found<Tail>, ParseErr>
     requires known { IsKnown left.now }
     requires shallow { left.now.depth ≤ room }
-    ensures gives { GivesTree (operated (boxed_shown left.now.tree)) expr_depth (room + 1) t.now left.now.end result (operation (parsers room) least (boxed_shown left.now.tree) (drop left.now.end t.now)) }
+    ensures gives { GivesTree (operated (boxed_shown left.now.tree)) expr_depth (room + 1) t.now
+        left.now.end result (operation (parsers room) least (boxed_shown left.now.tree)
+        (drop left.now.end t.now)) }
     ensures deeper { IfOk result (λ x. left.now.depth < x.depth) }
 {
     let op = binary_op(alloc, t, left.end, least, &*left.tree)?;
@@ -123,7 +128,9 @@ fn operator(
     left: &Found<Box<Expr>>,
 ) -> Result<Found<Tail>, ParseErr>
     requires { IsKnown left.now }
-    ensures gives { GivesTree (operated (boxed_shown left.now.tree)) expr_depth (room + 1) t.now left.now.end result (operator room (parsers room) least (boxed_shown left.now.tree) (drop left.now.end t.now)) }
+    ensures gives { GivesTree (operated (boxed_shown left.now.tree)) expr_depth (room + 1) t.now
+        left.now.end result (operator room (parsers room) least (boxed_shown left.now.tree)
+        (drop left.now.end t.now)) }
     ensures deeper { IfOk result (λ x. left.now.depth < x.depth) }
 {
     if (room as usize) < left.depth {
@@ -144,7 +151,8 @@ pub(crate) fn binary(
     room: u32,
     least: usize,
 ) -> Result<Found<Box<Expr>>, ParseErr>
-    ensures { GivesTree boxed_shown expr_depth room t.now at result ((parsers room).binary least (drop at t.now)) }
+    ensures { GivesTree boxed_shown expr_depth room t.now at result
+        ((parsers room).binary least (drop at t.now)) }
 {
     if room == 0 {
         return Err(ParseErr::NoTree);

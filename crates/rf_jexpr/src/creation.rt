@@ -36,7 +36,8 @@ fn new_class(
     word: Tok,
     base: TypeBase,
 ) -> Result<Found<Box<Expr>>, ParseErr>
-    ensures { GivesTree boxed_shown expr_depth (room + 1) t.now at result (new_class (parsers room) word (base_shown base) (drop at t.now)) }
+    ensures { GivesTree boxed_shown expr_depth (room + 1) t.now at result
+        (new_class (parsers room) word (base_shown base) (drop at t.now)) }
 {
     match base {
         TypeBase::Prim(_) => Err(ParseErr::NoTree),
@@ -64,7 +65,8 @@ fn new_filled(
     base: TypeBase,
 ) -> Result<Found<Box<Expr>>, ParseErr>
     requires { at ≤ length t.now }
-    ensures { GivesTree boxed_shown expr_depth (room + 1) t.now at result (new_filled (parsers room) word (base_shown base) (drop at t.now)) }
+    ensures { GivesTree boxed_shown expr_depth (room + 1) t.now at result
+        (new_filled (parsers room) word (base_shown base) (drop at t.now)) }
 {
     let ends = dims(alloc, t, at)?;
     if ends.item.list.is_empty() {
@@ -91,7 +93,13 @@ fn new_sized(
     requires known { sizes.depth ≡ list_depth size_depth (map size_shown sizes.tree) }
     requires small { sizes.depth < 2 ^ 62 }
     requires within { sizes.end ≤ length t.now }
-    ensures { IfOk result (IsFound boxed_shown expr_depth (sizes.depth + 1) t.now sizes.end (and_then (dims (drop sizes.end t.now)) (λ ends. Some (NewArray word (base_shown base) (sizes_tree (map size_shown sizes.tree)) ends.0, ends.1)))) }
+    ensures { IfOk result (IsFound boxed_shown expr_depth (sizes.depth + 1) t.now sizes.end
+        (and_then (dims (drop sizes.end t.now))
+        (λ ends. Some (
+          NewArray word (base_shown base) (sizes_tree (map size_shown sizes.tree))
+              ends.0,
+          ends.1,
+        )))) }
 {
     let ends = dims(alloc, t, sizes.end)?;
     let tree = array_of(alloc, word, base, sizes.tree, ends.item)?;
@@ -114,7 +122,9 @@ fn new_array(
     base: TypeBase,
 ) -> Result<Found<Box<Expr>>, ParseErr>
     requires { at ≤ length t.now }
-    ensures { GivesTree boxed_shown expr_depth (room + 1) t.now at result (and_then (many (sized (parsers room)) (drop at t.now)) (λ sizes. new_array (parsers room) word (base_shown base) sizes.0 sizes.1)) }
+    ensures { GivesTree boxed_shown expr_depth (room + 1) t.now at result
+        (and_then (many (sized (parsers room)) (drop at t.now))
+        (λ sizes. new_array (parsers room) word (base_shown base) sizes.0 sizes.1)) }
 {
     let found = sizes(alloc, t, at, room)?;
     if found.tree.is_empty() {
@@ -133,7 +143,8 @@ pub(crate) fn creation(
     at: usize,
     room: u32,
 ) -> Result<Found<Box<Expr>>, ParseErr>
-    ensures { GivesTree boxed_shown expr_depth (room + 1) t.now at result (creation (parsers room) (drop at t.now)) }
+    ensures { GivesTree boxed_shown expr_depth (room + 1) t.now at result
+        (creation (parsers room) (drop at t.now)) }
 {
     let word = take(alloc, t, at, Want::Key(NEW))?;
     let base = type_base(alloc, t, word.end)?;

@@ -64,7 +64,8 @@ pub(crate) fn paren_of(
     value: Box<Expr>,
     right: Tok,
 ) -> Result<Box<Expr>, Memory>
-    ensures { IfOk result (λ found. boxed_shown found ≡ trees.Paren left (boxed_shown value) right) }
+    ensures { IfOk result (λ found. boxed_shown found ≡ trees.Paren left (boxed_shown value)
+        right) }
 {
     let end = put(alloc, right)?;
     boxed(alloc, Expr::Paren(left, value, end))
@@ -83,7 +84,8 @@ pub(crate) fn cast_of(
     right: Tok,
     value: Box<Expr>,
 ) -> Result<Box<Expr>, Memory>
-    ensures { IfOk result (λ found. boxed_shown found ≡ trees.Cast left (type_shown sort) right (boxed_shown value)) }
+    ensures { IfOk result (λ found. boxed_shown found ≡ trees.Cast left (type_shown sort) right
+        (boxed_shown value)) }
 {
     let to = put(alloc, sort)?;
     let end = put(alloc, right)?;
@@ -104,7 +106,8 @@ pub(crate) fn super_of(
     id: Tok,
     args: Option<Box<Args>>,
 ) -> Result<Box<Expr>, Memory>
-    ensures { IfOk result (λ found. boxed_shown found ≡ trees.Super word dot id (super_args_tree (super_args_found args))) }
+    ensures { IfOk result (λ found. boxed_shown found ≡ trees.Super word dot id
+        (super_args_tree (super_args_found args))) }
 {
     let first = put(alloc, word)?;
     let mark = put(alloc, dot)?;
@@ -127,7 +130,8 @@ pub(crate) fn object_of(
     class: Name,
     args: Box<Args>,
 ) -> Result<Box<Expr>, Memory>
-    ensures { IfOk result (λ found. boxed_shown found ≡ trees.New word (name_shown class) (boxed_args_shown args)) }
+    ensures { IfOk result (λ found. boxed_shown found ≡ trees.New word (name_shown class)
+        (boxed_args_shown args)) }
 {
     let name = put(alloc, class)?;
     boxed(alloc, Expr::New(word, name, args))
@@ -141,7 +145,8 @@ pub(crate) fn array_of(
     sizes: List<(Tok, Expr, Tok)>,
     dims: Dims,
 ) -> Result<Box<Expr>, Memory>
-    ensures { IfOk result (λ found. boxed_shown found ≡ trees.NewArray word (base_shown base) (sizes_tree (map size_shown sizes)) dims) }
+    ensures { IfOk result (λ found. boxed_shown found ≡ trees.NewArray word (base_shown base)
+        (sizes_tree (map size_shown sizes)) dims) }
 {
     let first = put(alloc, word)?;
     let of = put(alloc, base)?;
@@ -164,7 +169,8 @@ pub(crate) fn filled_of(
     dims: Dims,
     init: Box<Braces>,
 ) -> Result<Box<Expr>, Memory>
-    ensures { IfOk result (λ found. boxed_shown found ≡ trees.NewInit word (base_shown base) dims (boxed_braces_shown init)) }
+    ensures { IfOk result (λ found. boxed_shown found ≡ trees.NewInit word (base_shown base) dims
+        (boxed_braces_shown init)) }
 {
     let first = put(alloc, word)?;
     let of = put(alloc, base)?;
@@ -185,7 +191,8 @@ pub(crate) fn args_of(
     list: Option<Many<Expr>>,
     right: Tok,
 ) -> Result<Box<Args>, Memory>
-    ensures { IfOk result (λ found. boxed_args_shown found ≡ trees.Args left (exprs_of (exprs_found list)) right) }
+    ensures { IfOk result (λ found. boxed_args_shown found ≡ trees.Args left
+        (exprs_of (exprs_found list)) right) }
 {
     boxed_args(alloc, Args { left, list, right })
 }
@@ -197,7 +204,8 @@ pub(crate) fn braces_of(
     comma: Option<Tok>,
     right: Tok,
 ) -> Result<Box<Braces>, Memory>
-    ensures { IfOk result (λ found. boxed_braces_shown found ≡ trees.Braces left (inits_of (inits_found items)) comma right) }
+    ensures { IfOk result (λ found. boxed_braces_shown found ≡ trees.Braces left
+        (inits_of (inits_found items)) comma right) }
 {
     let braces = Braces {
         left,
@@ -215,7 +223,8 @@ pub(crate) fn value_of(alloc: Global, value: Box<Expr>) -> Result<Box<Init>, Mem
 }
 
 pub(crate) fn braced_of(alloc: Global, items: Box<Braces>) -> Result<Box<Init>, Memory>
-    ensures { IfOk result (λ found. boxed_init_shown found ≡ trees.Braced (boxed_braces_shown items)) }
+    ensures { IfOk result (λ found. boxed_init_shown found ≡ trees.Braced
+        (boxed_braces_shown items)) }
 {
     boxed_init(alloc, Init::Braced(items))
 }

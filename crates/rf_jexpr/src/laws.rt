@@ -6,7 +6,8 @@ ghost use Rattle.rf_jexpr.specs.Stops.{begins_expr};
 
 /// No two expressions that fit have the same tokens.
 pub fn expressions_have_one_tree()
-    ensures { (one other : ExprTree) → ExprFits one → ExprFits other → expr_yield one ≡ expr_yield other → one ≡ other }
+    ensures { (one other : ExprTree) → ExprFits one → ExprFits other → expr_yield one ≡ expr_yield
+        other → one ≡ other }
 {}
 
 /// An expression that fits begins with an identifier, a literal, `(`, `this`, `super`, `new` or a prefix operator.

@@ -37,16 +37,20 @@ pub fn boxed_expr(
     at: usize,
     room: u32,
 ) -> Result<Found<Box<Expr>>, ParseErr>
-    ensures gives { GivesTree boxed_shown expr_depth room t.now at result ((parsers room).expr (drop at t.now)) }
-    ensures longest { IsLongestOf ExprFits expr_yield expr_depth boxed_shown t.now at room (of_found result) }
+    ensures gives { GivesTree boxed_shown expr_depth room t.now at result
+        ((parsers room).expr (drop at t.now)) }
+    ensures longest { IsLongestOf ExprFits expr_yield expr_depth boxed_shown t.now at room
+        (of_found result) }
 {
     top::expr(alloc, t, at, room)
 }
 
 /// The longest initializer: an expression, or items in braces (JLS 8.3, 10.6).
 pub fn init(alloc: Global, t: &[Tok], at: usize, room: u32) -> Result<Found<Box<Init>>, ParseErr>
-    ensures gives { GivesTree boxed_init_shown init_depth room t.now at result ((parsers room).init (drop at t.now)) }
-    ensures longest { IsLongestOf InitFits init_yield init_depth boxed_init_shown t.now at room (of_found result) }
+    ensures gives { GivesTree boxed_init_shown init_depth room t.now at result
+        ((parsers room).init (drop at t.now)) }
+    ensures longest { IsLongestOf InitFits init_yield init_depth boxed_init_shown t.now at room
+        (of_found result) }
 {
     top::init(alloc, t, at, room)
 }
@@ -58,8 +62,10 @@ pub fn new_expr(
     at: usize,
     room: u32,
 ) -> Result<Found<Box<Expr>>, ParseErr>
-    ensures gives { GivesTree boxed_shown expr_depth room t.now at result (creations room (drop at t.now)) }
-    ensures longest { IsLongestOf CreationFits expr_yield expr_depth boxed_shown t.now at room (of_found result) }
+    ensures gives { GivesTree boxed_shown expr_depth room t.now at result
+        (creations room (drop at t.now)) }
+    ensures longest { IsLongestOf CreationFits expr_yield expr_depth boxed_shown t.now at room
+        (of_found result) }
 {
     if room == 0 {
         return Err(ParseErr::NoTree);
@@ -69,8 +75,10 @@ pub fn new_expr(
 
 /// The arguments in parentheses, of which there is one list at most (JLS 15.12).
 pub fn args(alloc: Global, t: &[Tok], at: usize, room: u32) -> Result<Found<Args>, ParseErr>
-    ensures gives { GivesTree args_shown args_depth room t.now at result (args (parsers room) (drop at t.now)) }
-    ensures longest { IsLongestOf ArgsFit args_yield args_depth args_shown t.now at room (of_found result) }
+    ensures gives { GivesTree args_shown args_depth room t.now at result
+        (args (parsers room) (drop at t.now)) }
+    ensures longest { IsLongestOf ArgsFit args_yield args_depth args_shown t.now at room
+        (of_found result) }
 {
     parts::args_alone(alloc, t, at, room)
 }
@@ -78,7 +86,8 @@ pub fn args(alloc: Global, t: &[Tok], at: usize, room: u32) -> Result<Found<Args
 /// The longest dotted name (JLS 6.2).
 pub fn name(alloc: Global, t: &[Tok], at: usize) -> Result<Taken<Name>, ParseErr>
     ensures gives { Gives name_shown t.now at result (name (drop at t.now)) }
-    ensures longest { IsLongestOf NameFits name_yield not_deep name_shown t.now at 0 (of_taken result) }
+    ensures longest { IsLongestOf NameFits name_yield not_deep name_shown t.now at 0
+        (of_taken result) }
 {
     names::name(alloc, t, at)
 }
@@ -86,7 +95,8 @@ pub fn name(alloc: Global, t: &[Tok], at: usize) -> Result<Taken<Name>, ParseErr
 /// The longest use of a type, with all the brackets behind it (JLS 4.1).
 pub fn type_use(alloc: Global, t: &[Tok], at: usize) -> Result<Taken<TypeUse>, ParseErr>
     ensures gives { Gives type_shown t.now at result (type_use (drop at t.now)) }
-    ensures longest { IsLongestOf TypeFits type_yield not_deep type_shown t.now at 0 (of_taken result) }
+    ensures longest { IsLongestOf TypeFits type_yield not_deep type_shown t.now at 0
+        (of_taken result) }
 {
     names::type_use(alloc, t, at)
 }

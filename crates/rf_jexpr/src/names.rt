@@ -16,7 +16,8 @@ use std::alloc::Global;
 /// A dot and an identifier.
 #[tactic(auto, unfolding(crate::specs::Reads::behind, crate::specs::Reads::and_then))]
 fn next_id(alloc: Global, t: &[Tok], at: usize) -> Result<Taken<(Tok, Tok)>, ParseErr>
-    ensures gives { Gives (λ item. item) t.now at result (behind (is_op DOT) (token is_ident) (drop at t.now)) }
+    ensures gives { Gives (λ item. item) t.now at result
+        (behind (is_op DOT) (token is_ident) (drop at t.now)) }
     ensures forth { IfOk result (λ x. at < x.end) }
 {
     let dot = take(alloc, t, at, Want::Op(DOT))?;
@@ -31,7 +32,8 @@ fn next_id(alloc: Global, t: &[Tok], at: usize) -> Result<Taken<(Tok, Tok)>, Par
 #[tactic(auto, using(crate::proofs::TurnLemmas::turns))]
 fn more_ids(alloc: Global, t: &[Tok], at: usize) -> Result<Taken<List<(Tok, Tok)>>, Memory>
     requires { at ≤ length t.now }
-    ensures { IfOk result (IsTaken (λ item. item) t.now at (many (behind (is_op DOT) (token is_ident)) (drop at t.now))) }
+    ensures { IfOk result (IsTaken (λ item. item) t.now at
+        (many (behind (is_op DOT) (token is_ident)) (drop at t.now))) }
 {
     let mut ids = List::new(alloc);
     let mut end = at;

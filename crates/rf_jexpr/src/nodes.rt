@@ -60,7 +60,8 @@ pub(crate) fn chosen(alloc: Global, test: Box<Expr>, tail: Choice) -> Result<Box
 }
 
 fn binary_of(alloc: Global, left: Box<Expr>, operation: Operation) -> Result<Box<Expr>, Memory>
-    ensures { IfOk result (λ found. boxed_shown found ≡ trees.Binary (boxed_shown left) operation.op (boxed_shown operation.value)) }
+    ensures { IfOk result (λ found. boxed_shown found ≡ trees.Binary (boxed_shown left) operation.op
+        (boxed_shown operation.value)) }
 {
     boxed(alloc, Expr::Binary(left, operation.op, operation.value))
 }
@@ -71,7 +72,8 @@ fn instance_of(
     word: Tok,
     sort: Box<TypeUse>,
 ) -> Result<Box<Expr>, Memory>
-    ensures { IfOk result (λ found. boxed_shown found ≡ trees.Instance (boxed_shown value) word (type_shown sort.value)) }
+    ensures { IfOk result (λ found. boxed_shown found ≡ trees.Instance (boxed_shown value) word
+        (type_shown sort.value)) }
 {
     boxed(alloc, Expr::Instance(value, word, sort))
 }
@@ -108,7 +110,8 @@ fn call_on(
     id: Tok,
     args: Box<Args>,
 ) -> Result<Box<Expr>, Memory>
-    ensures { IfOk result (λ found. boxed_shown found ≡ trees.Call (trees.On (boxed_shown on) dot) id (boxed_args_shown args)) }
+    ensures { IfOk result (λ found. boxed_shown found ≡ trees.Call (trees.On (boxed_shown on) dot)
+        id (boxed_args_shown args)) }
 {
     let front = put(alloc, (on, dot))?;
     let on = Some(front);
@@ -117,7 +120,8 @@ fn call_on(
 
 /// A method called on nothing.
 fn call_alone(alloc: Global, id: Tok, args: Box<Args>) -> Result<Box<Expr>, Memory>
-    ensures { IfOk result (λ found. boxed_shown found ≡ trees.Call trees.NoOn id (boxed_args_shown args)) }
+    ensures { IfOk result (λ found. boxed_shown found ≡ trees.Call trees.NoOn id
+        (boxed_args_shown args)) }
 {
     boxed(alloc, Expr::Call { on: None, id, args })
 }
@@ -137,7 +141,8 @@ fn item_of(
     place: Box<Expr>,
     right: Tok,
 ) -> Result<Box<Expr>, Memory>
-    ensures { IfOk result (λ found. boxed_shown found ≡ trees.Index (boxed_shown on) left (boxed_shown place) right) }
+    ensures { IfOk result (λ found. boxed_shown found ≡ trees.Index (boxed_shown on) left
+        (boxed_shown place) right) }
 {
     let end = put(alloc, right)?;
     boxed(alloc, Expr::Index(on, left, place, end))
@@ -171,7 +176,8 @@ pub(crate) fn suffixed(
 /// How deep what a method of this name is called on is.
 #[tactic(auto, unfolding(crate::specs::PrimaryReads::called_on))]
 pub(crate) fn depth_called_on(name: &Name) -> usize
-    ensures { result ≡ on_depth (called_on (name_shown name.now).ids.first (name_shown name.now).ids.rest) }
+    ensures { result ≡ on_depth (called_on (name_shown name.now).ids.first
+        (name_shown name.now).ids.rest) }
 {
     match name.ids.rest.as_slice() {
         [] => 0,

@@ -32,7 +32,8 @@ pub(crate) fn paren(
     at: usize,
     room: u32,
 ) -> Result<Found<Box<Expr>>, ParseErr>
-    ensures { GivesTree boxed_shown expr_depth (room + 1) t.now at result (paren (parsers room) (drop at t.now)) }
+    ensures { GivesTree boxed_shown expr_depth (room + 1) t.now at result
+        (paren (parsers room) (drop at t.now)) }
 {
     let left = take(alloc, t, at, Want::Op(LEFT_PAREN))?;
     let value = expr(alloc, t, left.end, room)?;
@@ -49,7 +50,8 @@ pub(crate) fn paren(
 #[cycle(expr)]
 #[tactic(auto, unfolding(crate::specs::Reads::behind, crate::specs::Reads::and_then))]
 fn next_expr(alloc: Global, t: &[Tok], at: usize, room: u32) -> Result<Found<(Tok, Expr)>, ParseErr>
-    ensures gives { GivesTree item_shown item_depth room t.now at result (behind (is_op COMMA) (parsers room).expr (drop at t.now)) }
+    ensures gives { GivesTree item_shown item_depth room t.now at result
+        (behind (is_op COMMA) (parsers room).expr (drop at t.now)) }
     ensures forth { IfOk result (λ x. at < x.end) }
 {
     let comma = take(alloc, t, at, Want::Op(COMMA))?;
@@ -70,7 +72,8 @@ fn more_exprs(
     room: u32,
 ) -> Result<Found<List<(Tok, Expr)>>, Memory>
     requires { at ≤ length t.now }
-    ensures { IfOk result (IsFound (map item_shown) (list_depth item_depth) room t.now at (many (behind (is_op COMMA) (parsers room).expr) (drop at t.now))) }
+    ensures { IfOk result (IsFound (map item_shown) (list_depth item_depth) room t.now at
+        (many (behind (is_op COMMA) (parsers room).expr) (drop at t.now))) }
 {
     let mut more = Found {
         tree: List::new(alloc),
@@ -92,7 +95,8 @@ pub fn exprs(
     room: u32,
 ) -> Result<Found<Option<Many<Expr>>>, Memory>
     requires { at ≤ length t.now }
-    ensures { IfOk result (IsFound exprs_found found_depth room t.now at (optional (separated COMMA (parsers room).expr) (drop at t.now))) }
+    ensures { IfOk result (IsFound exprs_found found_depth room t.now at
+        (optional (separated COMMA (parsers room).expr) (drop at t.now))) }
 {
     let Some(first) = attempt(expr(alloc, t, at, room))? else {
         return Ok(Found {
@@ -121,7 +125,8 @@ pub(crate) fn args(
     at: usize,
     room: u32,
 ) -> Result<Found<Box<Args>>, ParseErr>
-    ensures { GivesTree boxed_args_shown args_depth room t.now at result (args (parsers room) (drop at t.now)) }
+    ensures { GivesTree boxed_args_shown args_depth room t.now at result
+        (args (parsers room) (drop at t.now)) }
 {
     let left = take(alloc, t, at, Want::Op(LEFT_PAREN))?;
     let list = exprs(alloc, t, left.end, room)?;
@@ -141,7 +146,8 @@ pub(crate) fn args_alone(
     at: usize,
     room: u32,
 ) -> Result<Found<Args>, ParseErr>
-    ensures { GivesTree args_shown args_depth room t.now at result (args (parsers room) (drop at t.now)) }
+    ensures { GivesTree args_shown args_depth room t.now at result
+        (args (parsers room) (drop at t.now)) }
 {
     let found = args(alloc, t, at, room)?;
     Ok(Found {
@@ -160,7 +166,8 @@ pub(crate) fn bracketed(
     at: usize,
     room: u32,
 ) -> Result<Found<(Tok, Box<Expr>, Tok)>, ParseErr>
-    ensures gives { GivesTree bracketed_shown size_depth room t.now at result (sized (parsers room) (drop at t.now)) }
+    ensures gives { GivesTree bracketed_shown size_depth room t.now at result
+        (sized (parsers room) (drop at t.now)) }
     ensures forth { IfOk result (λ x. at < x.end) }
 {
     let left = take(alloc, t, at, Want::Op(LEFT_BRACKET))?;
@@ -181,7 +188,8 @@ fn sized(
     at: usize,
     room: u32,
 ) -> Result<Found<(Tok, Expr, Tok)>, ParseErr>
-    ensures gives { GivesTree size_shown size_depth room t.now at result (sized (parsers room) (drop at t.now)) }
+    ensures gives { GivesTree size_shown size_depth room t.now at result
+        (sized (parsers room) (drop at t.now)) }
     ensures forth { IfOk result (λ x. at < x.end) }
 {
     let found = bracketed(alloc, t, at, room)?;
@@ -202,7 +210,8 @@ pub(crate) fn sizes(
     room: u32,
 ) -> Result<Found<List<(Tok, Expr, Tok)>>, Memory>
     requires { at ≤ length t.now }
-    ensures { IfOk result (IsFound (map size_shown) (list_depth size_depth) room t.now at (many (sized (parsers room)) (drop at t.now))) }
+    ensures { IfOk result (IsFound (map size_shown) (list_depth size_depth) room t.now at
+        (many (sized (parsers room)) (drop at t.now))) }
 {
     let mut list = Found {
         tree: List::new(alloc),
@@ -219,7 +228,8 @@ pub(crate) fn sizes(
 #[cycle(expr)]
 #[tactic(auto, unfolding(crate::specs::Reads::behind, crate::specs::Reads::and_then))]
 fn next_init(alloc: Global, t: &[Tok], at: usize, room: u32) -> Result<Found<(Tok, Init)>, ParseErr>
-    ensures gives { GivesTree init_item_shown init_item_depth room t.now at result (behind (is_op COMMA) (parsers room).init (drop at t.now)) }
+    ensures gives { GivesTree init_item_shown init_item_depth room t.now at result
+        (behind (is_op COMMA) (parsers room).init (drop at t.now)) }
     ensures forth { IfOk result (λ x. at < x.end) }
 {
     let comma = take(alloc, t, at, Want::Op(COMMA))?;
@@ -240,7 +250,8 @@ fn more_inits(
     room: u32,
 ) -> Result<Found<List<(Tok, Init)>>, Memory>
     requires { at ≤ length t.now }
-    ensures { IfOk result (IsFound (map init_item_shown) (list_depth init_item_depth) room t.now at (many (behind (is_op COMMA) (parsers room).init) (drop at t.now))) }
+    ensures { IfOk result (IsFound (map init_item_shown) (list_depth init_item_depth) room t.now at
+        (many (behind (is_op COMMA) (parsers room).init) (drop at t.now))) }
 {
     let mut more = Found {
         tree: List::new(alloc),
@@ -262,7 +273,8 @@ fn inits(
     room: u32,
 ) -> Result<Found<Option<Many<Init>>>, Memory>
     requires { at ≤ length t.now }
-    ensures { IfOk result (IsFound inits_found inits_found_depth room t.now at (optional (separated COMMA (parsers room).init) (drop at t.now))) }
+    ensures { IfOk result (IsFound inits_found inits_found_depth room t.now at
+        (optional (separated COMMA (parsers room).init) (drop at t.now))) }
 {
     let Some(first) = attempt(init(alloc, t, at, room))? else {
         return Ok(Found {
@@ -286,7 +298,8 @@ fn inits(
 #[tactic(auto, unfolding(crate::specs::Reads::optional, crate::specs::Reads::and_then, crate::specs::Reads::or_else))]
 fn comma(alloc: Global, t: &[Tok], at: usize) -> Result<Taken<Option<Tok>>, Memory>
     requires { at ≤ length t.now }
-    ensures { IfOk result (IsTaken (λ comma. comma) t.now at (optional (token (is_op COMMA)) (drop at t.now))) }
+    ensures { IfOk result (IsTaken (λ comma. comma) t.now at
+        (optional (token (is_op COMMA)) (drop at t.now))) }
 {
     match attempt(take(alloc, t, at, Want::Op(COMMA)))? {
         Some(comma) => Ok(Taken {
@@ -309,7 +322,8 @@ pub(crate) fn braces(
     at: usize,
     room: u32,
 ) -> Result<Found<Box<Braces>>, ParseErr>
-    ensures { GivesTree boxed_braces_shown braces_depth room t.now at result (braces (parsers room) (drop at t.now)) }
+    ensures { GivesTree boxed_braces_shown braces_depth room t.now at result
+        (braces (parsers room) (drop at t.now)) }
 {
     let left = take(alloc, t, at, Want::Op(LEFT_BRACE))?;
     let items = inits(alloc, t, left.end, room)?;

@@ -62,7 +62,8 @@ fn super_args(
     room: u32,
 ) -> Result<Found<Option<Box<Args>>>, Memory>
     requires { at ≤ length t.now }
-    ensures { IfOk result (IsFound super_args_found super_args_found_depth room t.now at (optional (args (parsers room)) (drop at t.now))) }
+    ensures { IfOk result (IsFound super_args_found super_args_found_depth room t.now at
+        (optional (args (parsers room)) (drop at t.now))) }
 {
     match attempt(args(alloc, t, at, room))? {
         Some(list) => Ok(Found {
@@ -87,7 +88,8 @@ fn super_member(
     at: usize,
     room: u32,
 ) -> Result<Found<Box<Expr>>, ParseErr>
-    ensures { GivesTree boxed_shown expr_depth (room + 1) t.now at result (super_member (parsers room) (drop at t.now)) }
+    ensures { GivesTree boxed_shown expr_depth (room + 1) t.now at result
+        (super_member (parsers room) (drop at t.now)) }
 {
     let word = take(alloc, t, at, Want::Key(SUPER))?;
     let dot = take(alloc, t, word.end, Want::Op(DOT))?;
@@ -111,7 +113,8 @@ fn named_call(
     room: u32,
     name: &Name,
 ) -> Result<Found<Box<Args>>, ParseErr>
-    ensures { GivesTree (named_called (name_shown name.now)) expr_depth (room + 1) t.now at result (named_call room (parsers room) (name_shown name.now) (drop at t.now)) }
+    ensures { GivesTree (named_called (name_shown name.now)) expr_depth (room + 1) t.now at result
+        (named_call room (parsers room) (name_shown name.now) (drop at t.now)) }
 {
     let on_depth = depth_called_on(name);
     if (room as usize) < on_depth {
@@ -129,7 +132,8 @@ fn named_call(
 #[cycle(expr)]
 #[tactic(auto, unfolding(crate::specs::PrimaryReads::named, crate::specs::Reads::and_then, crate::specs::Reads::or_else))]
 fn named(alloc: Global, t: &[Tok], at: usize, room: u32) -> Result<Found<Box<Expr>>, ParseErr>
-    ensures { GivesTree boxed_shown expr_depth (room + 1) t.now at result (named room (parsers room) (drop at t.now)) }
+    ensures { GivesTree boxed_shown expr_depth (room + 1) t.now at result
+        (named room (parsers room) (drop at t.now)) }
 {
     let name = name(alloc, t, at)?;
     let Some(tail) = attempt(named_call(alloc, t, name.end, room, &name.item))? else {
@@ -152,7 +156,8 @@ fn named(alloc: Global, t: &[Tok], at: usize, room: u32) -> Result<Found<Box<Exp
 #[cycle(expr)]
 #[tactic(auto, unfolding(crate::specs::PrimaryReads::first_part))]
 fn first_part(alloc: Global, t: &[Tok], at: usize, room: u32) -> Result<Found<Box<Expr>>, ParseErr>
-    ensures { GivesTree boxed_shown expr_depth (room + 1) t.now at result (first_part room (parsers room) (drop at t.now)) }
+    ensures { GivesTree boxed_shown expr_depth (room + 1) t.now at result
+        (first_part room (parsers room) (drop at t.now)) }
 {
     if is_at(t, at, Want::Literal) {
         return literal(alloc, t, at);
@@ -183,7 +188,8 @@ fn field(
     requires known { IsKnown on.now }
     requires small { on.now.depth < 2 ^ 62 }
     requires within { id.end ≤ length t.now }
-    ensures gives { GivesTree (suffixed (boxed_shown on.now.tree)) expr_depth (on.now.depth + 1) t.now id.end result (field (boxed_shown on.now.tree) dot id.item (drop id.end t.now)) }
+    ensures gives { GivesTree (suffixed (boxed_shown on.now.tree)) expr_depth (on.now.depth + 1)
+        t.now id.end result (field (boxed_shown on.now.tree) dot id.item (drop id.end t.now)) }
     ensures deeper { IfOk result (λ x. on.now.depth < x.depth) }
 {
     if !takes_field(&on.tree) {
@@ -207,7 +213,9 @@ fn member(
 ) -> Result<Found<Suffix>, ParseErr>
     requires known { IsKnown on.now }
     requires shallow { on.now.depth ≤ room }
-    ensures gives { GivesTree (suffixed (boxed_shown on.now.tree)) expr_depth (room + 1) t.now on.now.end result (member (parsers room) (boxed_shown on.now.tree) (drop on.now.end t.now)) }
+    ensures gives { GivesTree (suffixed (boxed_shown on.now.tree)) expr_depth (room + 1) t.now
+        on.now.end result (member (parsers room) (boxed_shown on.now.tree)
+        (drop on.now.end t.now)) }
     ensures deeper { IfOk result (λ x. on.now.depth < x.depth) }
 {
     let dot = take(alloc, t, on.end, Want::Op(DOT))?;
@@ -233,7 +241,8 @@ fn item(
 ) -> Result<Found<Suffix>, ParseErr>
     requires known { IsKnown on.now }
     requires shallow { on.now.depth ≤ room }
-    ensures gives { GivesTree (suffixed (boxed_shown on.now.tree)) expr_depth (room + 1) t.now on.now.end result (item (parsers room) (boxed_shown on.now.tree) (drop on.now.end t.now)) }
+    ensures gives { GivesTree (suffixed (boxed_shown on.now.tree)) expr_depth (room + 1) t.now
+        on.now.end result (item (parsers room) (boxed_shown on.now.tree) (drop on.now.end t.now)) }
     ensures deeper { IfOk result (λ x. on.now.depth < x.depth) }
 {
     if !takes_index(&on.tree) {
@@ -258,7 +267,9 @@ fn suffix(
     on: &Found<Box<Expr>>,
 ) -> Result<Found<Suffix>, ParseErr>
     requires { IsKnown on.now }
-    ensures gives { GivesTree (suffixed (boxed_shown on.now.tree)) expr_depth (room + 1) t.now on.now.end result (suffix room (parsers room) (boxed_shown on.now.tree) (drop on.now.end t.now)) }
+    ensures gives { GivesTree (suffixed (boxed_shown on.now.tree)) expr_depth (room + 1) t.now
+        on.now.end result (suffix room (parsers room) (boxed_shown on.now.tree)
+        (drop on.now.end t.now)) }
     ensures deeper { IfOk result (λ x. on.now.depth < x.depth) }
 {
     if (room as usize) < on.depth {
@@ -279,7 +290,8 @@ pub(crate) fn primary(
     at: usize,
     room: u32,
 ) -> Result<Found<Box<Expr>>, ParseErr>
-    ensures { GivesTree boxed_shown expr_depth (room + 1) t.now at result (primary room (parsers room) (drop at t.now)) }
+    ensures { GivesTree boxed_shown expr_depth (room + 1) t.now at result
+        (primary room (parsers room) (drop at t.now)) }
 {
     let mut found = first_part(alloc, t, at, room)?;
     'suffixes: while let Some(tail) = attempt(suffix(alloc, t, room, &found))? {

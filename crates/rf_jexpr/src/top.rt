@@ -28,7 +28,9 @@ fn choice(
     test: &Found<Box<Expr>>,
 ) -> Result<Found<Choice>, ParseErr>
     requires { IsKnown test.now }
-    ensures { GivesTree (chosen (boxed_shown test.now.tree)) expr_depth (room + 1) t.now test.now.end result (choice room (parsers room) (boxed_shown test.now.tree) (drop test.now.end t.now)) }
+    ensures { GivesTree (chosen (boxed_shown test.now.tree)) expr_depth (room + 1) t.now
+        test.now.end result (choice room (parsers room) (boxed_shown test.now.tree)
+        (drop test.now.end t.now)) }
 {
     if (room as usize) < test.depth {
         return Err(ParseErr::NoTree);
@@ -57,7 +59,8 @@ pub(crate) fn conditional(
     at: usize,
     room: u32,
 ) -> Result<Found<Box<Expr>>, ParseErr>
-    ensures { GivesTree boxed_shown expr_depth room t.now at result ((parsers room).conditional (drop at t.now)) }
+    ensures { GivesTree boxed_shown expr_depth room t.now at result
+        ((parsers room).conditional (drop at t.now)) }
 {
     if room == 0 {
         return Err(ParseErr::NoTree);
@@ -84,7 +87,9 @@ fn assignment(
     left: &Found<Box<Expr>>,
 ) -> Result<Found<Operation>, ParseErr>
     requires { IsKnown left.now }
-    ensures { GivesTree (assigned (boxed_shown left.now.tree)) expr_depth (room + 1) t.now left.now.end result (assignment room (parsers room) (boxed_shown left.now.tree) (drop left.now.end t.now)) }
+    ensures { GivesTree (assigned (boxed_shown left.now.tree)) expr_depth (room + 1) t.now
+        left.now.end result (assignment room (parsers room) (boxed_shown left.now.tree)
+        (drop left.now.end t.now)) }
 {
     if !is_assignable(&left.tree) || (room as usize) < left.depth {
         return Err(ParseErr::NoTree);
@@ -109,7 +114,8 @@ pub(crate) fn expr(
     at: usize,
     room: u32,
 ) -> Result<Found<Box<Expr>>, ParseErr>
-    ensures { GivesTree boxed_shown expr_depth room t.now at result ((parsers room).expr (drop at t.now)) }
+    ensures { GivesTree boxed_shown expr_depth room t.now at result
+        ((parsers room).expr (drop at t.now)) }
 {
     if room == 0 {
         return Err(ParseErr::NoTree);
@@ -135,7 +141,8 @@ pub(crate) fn init(
     at: usize,
     room: u32,
 ) -> Result<Found<Box<Init>>, ParseErr>
-    ensures { GivesTree boxed_init_shown init_depth room t.now at result ((parsers room).init (drop at t.now)) }
+    ensures { GivesTree boxed_init_shown init_depth room t.now at result
+        ((parsers room).init (drop at t.now)) }
 {
     if room == 0 {
         return Err(ParseErr::NoTree);

@@ -27,7 +27,8 @@ fn step(
     value: &Found<Box<Expr>>,
 ) -> Result<Taken<Tok>, ParseErr>
     requires { IsKnown value.now }
-    ensures gives { Gives (Postfix (boxed_shown value.now.tree)) t.now value.now.end result (step room (boxed_shown value.now.tree) (drop value.now.end t.now)) }
+    ensures gives { Gives (Postfix (boxed_shown value.now.tree)) t.now value.now.end result
+        (step room (boxed_shown value.now.tree) (drop value.now.end t.now)) }
     ensures shallow { IfOk result (λ x. value.now.depth ≤ room) }
 {
     if (room as usize) < value.depth {
@@ -63,7 +64,8 @@ fn steps(
     requires known { IsKnown first }
     requires shallow { first.depth ≤ room + 1 }
     requires within { first.end ≤ length t.now }
-    ensures { IfOk result (IsFound boxed_shown expr_depth (room + 1) t.now first.end (chain (step room) (room + 1) (boxed_shown first.tree) (drop first.end t.now))) }
+    ensures { IfOk result (IsFound boxed_shown expr_depth (room + 1) t.now first.end
+        (chain (step room) (room + 1) (boxed_shown first.tree) (drop first.end t.now))) }
 {
     let mut value = first;
     'steps: while let Some(op) = attempt(step(alloc, t, room, &value))? {
@@ -76,7 +78,8 @@ fn steps(
 #[cycle(expr)]
 #[tactic(auto, unfolding(crate::specs::Descent::postfix, crate::specs::Reads::and_then))]
 fn postfix(alloc: Global, t: &[Tok], at: usize, room: u32) -> Result<Found<Box<Expr>>, ParseErr>
-    ensures { GivesTree boxed_shown expr_depth (room + 1) t.now at result (postfix room (parsers room) (drop at t.now)) }
+    ensures { GivesTree boxed_shown expr_depth (room + 1) t.now at result
+        (postfix room (parsers room) (drop at t.now)) }
 {
     let value = primary(alloc, t, at, room)?;
     let found = steps(alloc, t, room, value)?;
@@ -87,7 +90,8 @@ fn postfix(alloc: Global, t: &[Tok], at: usize, room: u32) -> Result<Found<Box<E
 #[cycle(expr)]
 #[tactic(auto, unfolding(crate::specs::Descent::prefixed, crate::specs::Reads::and_then))]
 fn prefixed(alloc: Global, t: &[Tok], at: usize, room: u32) -> Result<Found<Box<Expr>>, ParseErr>
-    ensures { GivesTree boxed_shown expr_depth (room + 1) t.now at result (prefixed (parsers room) (drop at t.now)) }
+    ensures { GivesTree boxed_shown expr_depth (room + 1) t.now at result
+        (prefixed (parsers room) (drop at t.now)) }
 {
     let op = take(alloc, t, at, Want::Prefix)?;
     let value = unary(alloc, t, op.end, room)?;
@@ -128,7 +132,8 @@ fn casts(t: &[Tok], at: usize, sort: &TypeUse) -> bool
 #[cycle(expr)]
 #[tactic(auto, unfolding(crate::specs::Descent::cast, crate::specs::Reads::and_then, crate::specs::Reads::when))]
 fn cast(alloc: Global, t: &[Tok], at: usize, room: u32) -> Result<Found<Box<Expr>>, ParseErr>
-    ensures { GivesTree boxed_shown expr_depth (room + 1) t.now at result (cast (parsers room) (drop at t.now)) }
+    ensures { GivesTree boxed_shown expr_depth (room + 1) t.now at result
+        (cast (parsers room) (drop at t.now)) }
 {
     let left = take(alloc, t, at, Want::Op(LEFT_PAREN))?;
     let sort = type_use(alloc, t, left.end)?;
@@ -154,7 +159,8 @@ pub(crate) fn unary(
     at: usize,
     room: u32,
 ) -> Result<Found<Box<Expr>>, ParseErr>
-    ensures { GivesTree boxed_shown expr_depth room t.now at result ((parsers room).unary (drop at t.now)) }
+    ensures { GivesTree boxed_shown expr_depth room t.now at result
+        ((parsers room).unary (drop at t.now)) }
 {
     if room == 0 {
         return Err(ParseErr::NoTree);

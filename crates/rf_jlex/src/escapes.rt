@@ -79,7 +79,8 @@ fn most_octal_digits(text: &[u8]) -> usize
 
 /// How many octal digits the longest octal escape has that goes on with `text`.
 fn count_octal_digits(text: &[u8]) -> usize
-    ensures counted { result ≡ prefix_len is_octal_digit (take (most_octal_digits text.now) text.now) }
+    ensures counted { result ≡ prefix_len is_octal_digit
+        (take (most_octal_digits text.now) text.now) }
     ensures within { result ≤ length text.now }
 {
     let most = most_octal_digits(text);

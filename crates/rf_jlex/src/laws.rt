@@ -7,7 +7,8 @@ ghost use Rattle.rf_jlex.specs.Lexed.{HasNoTokens};
 
 /// Two token lists of the same bytes are equal.
 pub fn token_lists_are_unique(bytes: &[u8])
-    ensures { (one other : Toks) → AreTokens bytes.now one → AreTokens bytes.now other → one ≡ other }
+    ensures { (one other : Toks) → AreTokens bytes.now one → AreTokens bytes.now other → one ≡
+        other }
 {}
 
 /// The leads and texts of a token list in order, with its tail, are the bytes.

@@ -67,7 +67,8 @@ fn behind_white(text: &[u8], at: usize) -> usize
     requires { at ≤ length text.now }
     ensures within { result ≤ length text.now }
     ensures forth { at ≤ result }
-    ensures skips { Skips text.now (take at text.now) (drop at text.now) → Skips text.now (take result text.now) (drop result text.now) }
+    ensures skips { Skips text.now (take at text.now) (drop at text.now) → Skips text.now
+        (take result text.now) (drop result text.now) }
 {
     let rest = text.split_at(at).1;
     at + white_length(rest)

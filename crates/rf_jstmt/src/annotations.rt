@@ -54,7 +54,8 @@ fn suppress_name(alloc: Global, t: &[Tok], at: usize) -> Result<Taken<Tok>, Pars
 
 /// A word that is a modifier (JLS 8.1.1, 8.3.1, 8.4.3).
 fn word_tok(alloc: Global, t: &[Tok], at: usize) -> Result<Taken<Tok>, ParseErr>
-    ensures gives { Gives (λ tok. tok) t.now at result (token (is_key_of MODIFIERS) (drop at t.now)) }
+    ensures gives { Gives (λ tok. tok) t.now at result
+        (token (is_key_of MODIFIERS) (drop at t.now)) }
     ensures forth { IfOk result (λ x. at < x.end) }
 {
     let Some(tok) = tok_at(t, at) else {
@@ -103,7 +104,8 @@ fn some_parens(alloc: Global, t: &[Tok], at: usize) -> Result<Taken<Option<(Tok,
 /// A comma and a string.
 #[tactic(auto, unfolding(rf_jexpr::specs::Reads::behind, rf_jexpr::specs::Reads::and_then))]
 fn next_str(alloc: Global, t: &[Tok], at: usize) -> Result<Taken<(Tok, Tok)>, ParseErr>
-    ensures gives { Gives (λ item. item) t.now at result (behind (is_op COMMA) (token is_str) (drop at t.now)) }
+    ensures gives { Gives (λ item. item) t.now at result
+        (behind (is_op COMMA) (token is_str) (drop at t.now)) }
     ensures forth { IfOk result (λ x. at < x.end) }
 {
     let comma = take(alloc, t, at, Want::Op(COMMA))?;
@@ -118,7 +120,8 @@ fn next_str(alloc: Global, t: &[Tok], at: usize) -> Result<Taken<(Tok, Tok)>, Pa
 #[tactic(auto, using(rf_jexpr::proofs::TurnLemmas::turns))]
 fn more_strs(alloc: Global, t: &[Tok], at: usize) -> Result<Taken<List<(Tok, Tok)>>, Memory>
     requires { at ≤ length t.now }
-    ensures { IfOk result (IsTaken (λ item. item) t.now at (many (behind (is_op COMMA) (token is_str)) (drop at t.now))) }
+    ensures { IfOk result (IsTaken (λ item. item) t.now at
+        (many (behind (is_op COMMA) (token is_str)) (drop at t.now))) }
 {
     let mut list = List::new(alloc);
     let mut end = at;
@@ -133,7 +136,8 @@ fn more_strs(alloc: Global, t: &[Tok], at: usize) -> Result<Taken<List<(Tok, Tok
 #[tactic(auto, unfolding(rf_jexpr::specs::Reads::optional, rf_jexpr::specs::Reads::separated, rf_jexpr::specs::Reads::and_then, rf_jexpr::specs::Reads::or_else))]
 fn some_strs(alloc: Global, t: &[Tok], at: usize) -> Result<Taken<Option<Many<Tok>>>, Memory>
     requires { at ≤ length t.now }
-    ensures { IfOk result (IsTaken (option_map toks_shown) t.now at (optional (separated COMMA (token is_str)) (drop at t.now))) }
+    ensures { IfOk result (IsTaken (option_map toks_shown) t.now at
+        (optional (separated COMMA (token is_str)) (drop at t.now))) }
 {
     let Some(first) = attempt(str_tok(alloc, t, at))? else {
         return Ok(Taken {

@@ -19,7 +19,8 @@ use std::alloc::Global;
 #[cycle(stmt)]
 pub fn stmts(alloc: Global, t: &[Tok], at: usize, room: u32) -> Result<Found<List<Stmt>>, Memory>
     requires { at ≤ length t.now }
-    ensures { IfOk result (IsFound stmts_shown stmts_depth room t.now at (stmts (stmt_parsers room) (drop at t.now))) }
+    ensures { IfOk result (IsFound stmts_shown stmts_depth room t.now at
+        (stmts (stmt_parsers room) (drop at t.now))) }
 {
     let mut list = Found {
         tree: List::new(alloc),
@@ -36,7 +37,8 @@ pub fn stmts(alloc: Global, t: &[Tok], at: usize, room: u32) -> Result<Found<Lis
 #[cycle(stmt)]
 #[tactic(auto, unfolding(crate::specs::StmtParts::block, rf_jexpr::specs::Reads::and_then))]
 pub fn body(alloc: Global, t: &[Tok], at: usize, room: u32) -> Result<Found<Block>, ParseErr>
-    ensures { GivesTree block_shown block_depth room t.now at result (block (stmt_parsers room) (drop at t.now)) }
+    ensures { GivesTree block_shown block_depth room t.now at result
+        (block (stmt_parsers room) (drop at t.now)) }
 {
     let left = take(alloc, t, at, Want::Op(LEFT_BRACE))?;
     let list = stmts(alloc, t, left.end, room)?;

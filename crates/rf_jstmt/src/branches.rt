@@ -54,7 +54,8 @@ fn other_part(
     at: usize,
     room: u32,
 ) -> Result<Found<Option<(Tok, Box<Stmt>)>>, ParseErr>
-    ensures { GivesTree other_shown other_depth room t.now at result (other_part (stmt_parsers room) (drop at t.now)) }
+    ensures { GivesTree other_shown other_depth room t.now at result
+        (other_part (stmt_parsers room) (drop at t.now)) }
 {
     let word = take(alloc, t, at, Want::Key(ELSE))?;
     let body = stmt(alloc, t, word.end, room)?;
@@ -83,7 +84,8 @@ fn other(
     first: &Box<Stmt>,
 ) -> Result<Found<Option<(Tok, Box<Stmt>)>>, ParseErr>
     requires { at ≤ length t.now }
-    ensures { GivesTree other_shown other_depth room t.now at result (other (stmt_parsers room) (boxed_stmt_shown first.now) (drop at t.now)) }
+    ensures { GivesTree other_shown other_depth room t.now at result
+        (other (stmt_parsers room) (boxed_stmt_shown first.now) (drop at t.now)) }
 {
     if !is_at(t, at, Want::Key(ELSE)) {
         return Ok(Found {
@@ -124,7 +126,8 @@ pub(crate) fn if_stmt(
 #[cycle(stmt)]
 #[tactic(auto, unfolding(crate::specs::StmtReads::case_group, rf_jexpr::specs::Reads::and_then))]
 fn case_group(alloc: Global, t: &[Tok], at: usize, room: u32) -> Result<Found<Group>, ParseErr>
-    ensures gives { GivesTree group_shown group_depth room t.now at result (case_group (parsers room) (stmt_parsers room) (drop at t.now)) }
+    ensures gives { GivesTree group_shown group_depth room t.now at result
+        (case_group (parsers room) (stmt_parsers room) (drop at t.now)) }
     ensures forth { IfOk result (λ x. at < x.end) }
 {
     let word = take(alloc, t, at, Want::Key(CASE))?;
@@ -142,7 +145,8 @@ fn case_group(alloc: Global, t: &[Tok], at: usize, room: u32) -> Result<Found<Gr
 #[cycle(stmt)]
 #[tactic(auto, unfolding(crate::specs::StmtReads::default_group, rf_jexpr::specs::Reads::and_then))]
 fn default_group(alloc: Global, t: &[Tok], at: usize, room: u32) -> Result<Found<Group>, ParseErr>
-    ensures gives { GivesTree group_shown group_depth room t.now at result (default_group (stmt_parsers room) (drop at t.now)) }
+    ensures gives { GivesTree group_shown group_depth room t.now at result
+        (default_group (stmt_parsers room) (drop at t.now)) }
     ensures forth { IfOk result (λ x. at < x.end) }
 {
     let word = take(alloc, t, at, Want::Key(DEFAULT))?;
@@ -159,7 +163,8 @@ fn default_group(alloc: Global, t: &[Tok], at: usize, room: u32) -> Result<Found
 #[cycle(stmt)]
 #[tactic(auto, unfolding(crate::specs::StmtReads::group))]
 fn group(alloc: Global, t: &[Tok], at: usize, room: u32) -> Result<Found<Group>, ParseErr>
-    ensures gives { GivesTree group_shown group_depth room t.now at result (group (parsers room) (stmt_parsers room) (drop at t.now)) }
+    ensures gives { GivesTree group_shown group_depth room t.now at result
+        (group (parsers room) (stmt_parsers room) (drop at t.now)) }
     ensures forth { IfOk result (λ x. at < x.end) }
 {
     if is_at(t, at, Want::Key(CASE)) {
@@ -172,7 +177,8 @@ fn group(alloc: Global, t: &[Tok], at: usize, room: u32) -> Result<Found<Group>,
 #[cycle(stmt)]
 fn groups(alloc: Global, t: &[Tok], at: usize, room: u32) -> Result<Found<List<Group>>, Memory>
     requires { at ≤ length t.now }
-    ensures { IfOk result (IsFound groups_found groups_found_depth room t.now at (many (group (parsers room) (stmt_parsers room)) (drop at t.now))) }
+    ensures { IfOk result (IsFound groups_found groups_found_depth room t.now at
+        (many (group (parsers room) (stmt_parsers room)) (drop at t.now))) }
 {
     let mut list = Found {
         tree: List::new(alloc),

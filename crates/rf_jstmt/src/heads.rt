@@ -27,7 +27,8 @@ pub(crate) fn head_at(
     room: u32,
     key: Kw,
 ) -> Result<Found<Box<Head>>, ParseErr>
-    ensures { GivesTree head_shown head_depth room t.now at result (head (parsers room) key (drop at t.now)) }
+    ensures { GivesTree head_shown head_depth room t.now at result
+        (head (parsers room) key (drop at t.now)) }
 {
     let word = take(alloc, t, at, Want::Key(key))?;
     let left = take(alloc, t, word.end, Want::Op(LEFT_PAREN))?;
@@ -73,7 +74,8 @@ pub(crate) fn optional_expr(
     room: u32,
 ) -> Result<Found<Option<Box<Expr>>>, ParseErr>
     requires { at ≤ length t.now }
-    ensures { GivesTree (option_map boxed_shown) (option_depth expr_depth) room t.now at result (optional_expr (parsers room) (drop at t.now)) }
+    ensures { GivesTree (option_map boxed_shown) (option_depth expr_depth) room t.now at result
+        (optional_expr (parsers room) (drop at t.now)) }
 {
     if !begins_expr_at(t, at) {
         return Ok(Found {
@@ -112,7 +114,8 @@ pub(crate) fn statement_exprs(
     room: u32,
 ) -> Result<Found<Option<Many<Expr>>>, ParseErr>
     requires { at ≤ length t.now }
-    ensures { GivesTree exprs_shown exprs_depth room t.now at result (statement_exprs (parsers room) (drop at t.now)) }
+    ensures { GivesTree exprs_shown exprs_depth room t.now at result
+        (statement_exprs (parsers room) (drop at t.now)) }
 {
     if !begins_expr_at(t, at) {
         return Ok(Found {

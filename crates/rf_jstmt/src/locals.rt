@@ -28,7 +28,8 @@ pub(crate) fn local_vars(
     mods: List<Mod>,
     sort: TypeUse,
 ) -> Result<Found<Local>, ParseErr>
-    ensures { GivesTree local_shown local_depth room t.now at result (local_vars (parsers room) (mods_shown mods) (type_shown sort) (drop at t.now)) }
+    ensures { GivesTree local_shown local_depth room t.now at result
+        (local_vars (parsers room) (mods_shown mods) (type_shown sort) (drop at t.now)) }
 {
     let vars = vars(alloc, t, at, room)?;
     Ok(Found {
@@ -51,7 +52,8 @@ pub(crate) fn local(
     room: u32,
 ) -> Result<Found<Local>, ParseErr>
     requires { at ≤ length t.now }
-    ensures { GivesTree local_shown local_depth room t.now at result (local (parsers room) (drop at t.now)) }
+    ensures { GivesTree local_shown local_depth room t.now at result
+        (local (parsers room) (drop at t.now)) }
 {
     let mods = variable_mods(alloc, t, at)?;
     let sort = type_use(alloc, t, mods.end)?;

@@ -79,7 +79,8 @@ fn for_head(
 ) -> Result<Found<Box<ForHead>>, ParseErr>
     requires known { IsFirstKnown first }
     requires shallow { first.depth ≤ room }
-    ensures { GivesTree for_head_shown for_head_depth room t.now first.end result (for_head (parsers room) word left (first_shown first.tree) (drop first.end t.now)) }
+    ensures { GivesTree for_head_shown for_head_depth room t.now first.end result
+        (for_head (parsers room) word left (first_shown first.tree) (drop first.end t.now)) }
 {
     let semi1 = take(alloc, t, first.end, Want::Op(SEMICOLON))?;
     let test = optional_expr(alloc, t, semi1.end, room)?;
@@ -116,7 +117,8 @@ fn basic_for(
 ) -> Result<Found<Box<Stmt>>, ParseErr>
     requires known { IsFirstKnown first }
     requires shallow { first.depth ≤ room }
-    ensures { GivesForm t.now first.end room result (λ p s. basic_for p s word left (first_shown first.tree)) }
+    ensures { GivesForm t.now first.end room result
+        (λ p s. basic_for p s word left (first_shown first.tree)) }
 {
     let head = for_head(alloc, t, room, word, left, first)?;
     let body = stmt(alloc, t, head.end, room)?;
@@ -140,7 +142,8 @@ fn each_head(
     mods: List<Mod>,
     sort: TypeUse,
 ) -> Result<Found<Box<EachHead>>, ParseErr>
-    ensures { GivesTree each_head_shown each_head_depth room t.now at result (each_head (parsers room) word left (mods_shown mods) (type_shown sort) (drop at t.now)) }
+    ensures { GivesTree each_head_shown each_head_depth room t.now at result
+        (each_head (parsers room) word left (mods_shown mods) (type_shown sort) (drop at t.now)) }
 {
     let id = take(alloc, t, at, Want::Ident)?;
     let colon = take(alloc, t, id.end, Want::Op(COLON))?;
@@ -176,7 +179,8 @@ fn each_for(
     mods: List<Mod>,
     sort: TypeUse,
 ) -> Result<Found<Box<Stmt>>, ParseErr>
-    ensures { GivesForm t.now at room result (λ p s. each_for p s word left (mods_shown mods) (type_shown sort)) }
+    ensures { GivesForm t.now at room result (λ p s. each_for p s word left (mods_shown mods)
+        (type_shown sort)) }
 {
     let head = each_head(alloc, t, at, room, word, left, mods, sort)?;
     let body = stmt(alloc, t, head.end, room)?;

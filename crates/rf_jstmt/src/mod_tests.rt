@@ -35,7 +35,8 @@ fn has_text(tok: &Tok, text: &[u8]) -> bool
 
 /// Whether the text is that of an annotation that stands alone.
 fn has_mark_text(tok: &Tok) -> bool
-    ensures { result ≡ (bytes_eq tok.now.text (codes "Override") || bytes_eq tok.now.text (codes "Deprecated")) }
+    ensures { result ≡ (bytes_eq tok.now.text (codes "Override") || bytes_eq tok.now.text
+        (codes "Deprecated")) }
 {
     has_text(tok, b"Override") || has_text(tok, b"Deprecated")
 }
@@ -90,14 +91,16 @@ fn is_access(one: &Mod) -> bool
 }
 
 fn differs_from_each(one: &Mod, others: &[Mod]) -> bool
-    ensures { result ≡ list_all (λ other. not (is_same_mod (mod_shown one.now) (mod_shown other))) others.now }
+    ensures { result ≡ list_all (λ other. not (is_same_mod (mod_shown one.now) (mod_shown other)))
+        others.now }
 {
     others.iter().all(|other| !is_same_mod(one, other))
 }
 
 /// Whether none of the others is the same modifier.
 fn is_new_to(one: &Mod, others: &[Mod]) -> bool
-    ensures { result ≡ list_all (λ other. not (is_same_mod (mod_shown one.now) other)) (mods_shown others.now) }
+    ensures { result ≡ list_all (λ other. not (is_same_mod (mod_shown one.now) other))
+        (mods_shown others.now) }
 {
     differs_from_each(one, others)
 }
@@ -126,7 +129,8 @@ fn has_no_access(mods: &[Mod]) -> bool
 }
 
 fn is_one_access(one: &Mod, others: &[Mod]) -> bool
-    ensures { result ≡ (not (is_access (mod_shown one.now)) || list_all (λ other. not (is_access other)) (mods_shown others.now)) }
+    ensures { result ≡ (not (is_access (mod_shown one.now)) || list_all
+        (λ other. not (is_access other)) (mods_shown others.now)) }
 {
     !is_access(one) || has_no_access(others)
 }

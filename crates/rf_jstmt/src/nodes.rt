@@ -98,7 +98,8 @@ pub(crate) fn each_of(
 
 /// A group of a `switch`.
 pub(crate) fn group_of(word: Tok, value: Option<Box<Expr>>, colon: Tok, body: List<Stmt>) -> Group
-    ensures { group_shown result ≡ trees.Group word (optional_expr_shown value) colon (stmts_shown body) }
+    ensures { group_shown result ≡ trees.Group word (optional_expr_shown value) colon
+        (stmts_shown body) }
 {
     Group {
         word,
@@ -115,7 +116,8 @@ pub(crate) fn switch_of(
     groups: List<Group>,
     end: Tok,
 ) -> Result<Box<Stmt>, Memory>
-    ensures { MakesStmt result (switch_tree head.value brace (groups_tree (groups_found groups)) end) }
+    ensures { MakesStmt result (switch_tree head.value brace (groups_tree (groups_found groups))
+        end) }
 {
     boxed(
         alloc,
@@ -157,7 +159,8 @@ pub(crate) fn try_of(
     catches: List<Catch>,
     last: Option<(Tok, Box<Block>)>,
 ) -> Result<Box<Stmt>, Memory>
-    ensures { MakesStmt result (trees.Try word (block_shown body) (catches_tree (catches_found catches)) (last_shown last)) }
+    ensures { MakesStmt result (trees.Try word (block_shown body)
+        (catches_tree (catches_found catches)) (last_shown last)) }
 {
     let body = put(alloc, body)?;
     boxed(

@@ -76,7 +76,8 @@ fn jump_word(alloc: Global, t: &[Tok], at: usize) -> Result<Taken<Tok>, ParseErr
 #[tactic(auto, unfolding(rf_jexpr::specs::Reads::optional, rf_jexpr::specs::Reads::and_then, rf_jexpr::specs::Reads::or_else))]
 fn some_label(alloc: Global, t: &[Tok], at: usize) -> Result<Taken<Option<Tok>>, Memory>
     requires { at ≤ length t.now }
-    ensures { IfOk result (IsTaken (λ label. label) t.now at (optional (token is_ident) (drop at t.now))) }
+    ensures { IfOk result (IsTaken (λ label. label) t.now at
+        (optional (token is_ident) (drop at t.now))) }
 {
     match attempt(take(alloc, t, at, Want::Ident))? {
         Some(label) => Ok(Taken {
@@ -161,7 +162,8 @@ fn message(
     at: usize,
     room: u32,
 ) -> Result<Found<(Tok, Box<Expr>)>, ParseErr>
-    ensures { GivesTree boxed_message_shown message_depth room t.now at result (behind (is_op COLON) (parsers room).expr (drop at t.now)) }
+    ensures { GivesTree boxed_message_shown message_depth room t.now at result
+        (behind (is_op COLON) (parsers room).expr (drop at t.now)) }
 {
     let colon = take(alloc, t, at, Want::Op(COLON))?;
     let value = boxed_expr(alloc, t, colon.end, room)?;
@@ -181,7 +183,8 @@ fn some_message(
     room: u32,
 ) -> Result<Found<Option<(Tok, Box<Expr>)>>, Memory>
     requires { at ≤ length t.now }
-    ensures { IfOk result (IsFound (option_map boxed_message_shown) (option_depth message_depth) room t.now at (optional (behind (is_op COLON) (parsers room).expr) (drop at t.now))) }
+    ensures { IfOk result (IsFound (option_map boxed_message_shown) (option_depth message_depth)
+        room t.now at (optional (behind (is_op COLON) (parsers room).expr) (drop at t.now))) }
 {
     match attempt(message(alloc, t, at, room))? {
         Some(found) => Ok(Found {

@@ -63,7 +63,8 @@ pub(crate) fn assert_of(
     message: Option<(Tok, Box<Expr>)>,
     semi: Tok,
 ) -> Result<Box<Stmt>, Memory>
-    ensures { MakesStmt result (trees.Assert word (boxed_shown test) (option_map boxed_message_shown message) semi) }
+    ensures { MakesStmt result (trees.Assert word (boxed_shown test)
+        (option_map boxed_message_shown message) semi) }
 {
     boxed(alloc, Stmt::Assert(word, test, message, semi))
 }

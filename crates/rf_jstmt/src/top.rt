@@ -88,7 +88,8 @@ pub(crate) fn stmt(
     at: usize,
     room: u32,
 ) -> Result<Found<Box<Stmt>>, ParseErr>
-    ensures { GivesTree boxed_stmt_shown stmt_depth room t.now at result ((stmt_parsers room).stmt (drop at t.now)) }
+    ensures { GivesTree boxed_stmt_shown stmt_depth room t.now at result
+        ((stmt_parsers room).stmt (drop at t.now)) }
 {
     if room == 0 {
         return Err(ParseErr::NoTree);
@@ -104,7 +105,8 @@ pub(crate) fn block_stmt(
     at: usize,
     room: u32,
 ) -> Result<Found<Box<Stmt>>, ParseErr>
-    ensures { GivesTree boxed_stmt_shown stmt_depth room t.now at result ((stmt_parsers room).block_stmt (drop at t.now)) }
+    ensures { GivesTree boxed_stmt_shown stmt_depth room t.now at result
+        ((stmt_parsers room).block_stmt (drop at t.now)) }
 {
     if room == 0 {
         return Err(ParseErr::NoTree);

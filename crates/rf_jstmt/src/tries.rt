@@ -46,7 +46,8 @@ pub(crate) fn sync_stmt(
 #[tactic(auto, unfolding(rf_jexpr::specs::Reads::optional, rf_jexpr::specs::Reads::and_then, rf_jexpr::specs::Reads::or_else))]
 fn fixed(alloc: Global, t: &[Tok], at: usize) -> Result<Taken<Option<Tok>>, Memory>
     requires { at ≤ length t.now }
-    ensures { IfOk result (IsTaken (λ word. word) t.now at (optional (token (is_key FINAL)) (drop at t.now))) }
+    ensures { IfOk result (IsTaken (λ word. word) t.now at
+        (optional (token (is_key FINAL)) (drop at t.now))) }
 {
     match attempt(take(alloc, t, at, Want::Key(FINAL)))? {
         Some(word) => Ok(Taken {
@@ -100,7 +101,8 @@ fn catch_head(alloc: Global, t: &[Tok], at: usize) -> Result<Taken<CatchHead>, P
 #[cycle(stmt)]
 #[tactic(auto, unfolding(crate::specs::StmtReads::catch_part, rf_jexpr::specs::Reads::and_then))]
 fn catch_part(alloc: Global, t: &[Tok], at: usize, room: u32) -> Result<Found<Catch>, ParseErr>
-    ensures gives { GivesTree catch_shown catch_depth room t.now at result (catch_part (stmt_parsers room) (drop at t.now)) }
+    ensures gives { GivesTree catch_shown catch_depth room t.now at result
+        (catch_part (stmt_parsers room) (drop at t.now)) }
     ensures forth { IfOk result (λ x. at < x.end) }
 {
     let head = catch_head(alloc, t, at)?;
@@ -116,7 +118,8 @@ fn catch_part(alloc: Global, t: &[Tok], at: usize, room: u32) -> Result<Found<Ca
 #[cycle(stmt)]
 fn catches(alloc: Global, t: &[Tok], at: usize, room: u32) -> Result<Found<List<Catch>>, Memory>
     requires { at ≤ length t.now }
-    ensures { IfOk result (IsFound catches_found catches_found_depth room t.now at (many (catch_part (stmt_parsers room)) (drop at t.now))) }
+    ensures { IfOk result (IsFound catches_found catches_found_depth room t.now at
+        (many (catch_part (stmt_parsers room)) (drop at t.now))) }
 {
     let mut list = Found {
         tree: List::new(alloc),
@@ -138,7 +141,8 @@ fn last_part(
     at: usize,
     room: u32,
 ) -> Result<Found<Option<(Tok, Box<Block>)>>, ParseErr>
-    ensures { GivesTree last_shown last_depth room t.now at result (last_part (stmt_parsers room) (drop at t.now)) }
+    ensures { GivesTree last_shown last_depth room t.now at result
+        (last_part (stmt_parsers room) (drop at t.now)) }
 {
     let word = take(alloc, t, at, Want::Key(FINALLY))?;
     let block = body(alloc, t, word.end, room)?;
@@ -159,7 +163,8 @@ fn last(
     room: u32,
 ) -> Result<Found<Option<(Tok, Box<Block>)>>, ParseErr>
     requires { at ≤ length t.now }
-    ensures { GivesTree last_shown last_depth room t.now at result (last (stmt_parsers room) (drop at t.now)) }
+    ensures { GivesTree last_shown last_depth room t.now at result
+        (last (stmt_parsers room) (drop at t.now)) }
 {
     if !is_at(t, at, Want::Key(FINALLY)) {
         return Ok(Found {

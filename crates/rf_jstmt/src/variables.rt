@@ -24,7 +24,8 @@ fn beginning(
     at: usize,
     room: u32,
 ) -> Result<Found<(Tok, Box<Init>)>, ParseErr>
-    ensures { GivesTree boxed_beginning_shown beginning_depth room t.now at result (behind (is_op ASSIGN) (parsers room).init (drop at t.now)) }
+    ensures { GivesTree boxed_beginning_shown beginning_depth room t.now at result
+        (behind (is_op ASSIGN) (parsers room).init (drop at t.now)) }
 {
     let sign = take(alloc, t, at, Want::Op(ASSIGN))?;
     let value = init(alloc, t, sign.end, room)?;
@@ -44,7 +45,8 @@ fn some_beginning(
     room: u32,
 ) -> Result<Found<Option<(Tok, Box<Init>)>>, Memory>
     requires { at ≤ length t.now }
-    ensures { IfOk result (IsFound (option_map boxed_beginning_shown) (option_depth beginning_depth) room t.now at (optional (behind (is_op ASSIGN) (parsers room).init) (drop at t.now))) }
+    ensures { IfOk result (IsFound (option_map boxed_beginning_shown) (option_depth beginning_depth)
+        room t.now at (optional (behind (is_op ASSIGN) (parsers room).init) (drop at t.now))) }
 {
     match attempt(beginning(alloc, t, at, room))? {
         Some(found) => Ok(Found {
@@ -61,7 +63,12 @@ fn some_beginning(
 }
 
 fn var_of(id: Tok, dims: Dims, beginning: Option<(Tok, Box<Init>)>) -> Var
-    ensures { var_shown result ≡ record { id = id; dims = dims; init = option_map boxed_beginning_shown beginning } }
+    ensures { var_shown result ≡ record {
+      id = id;
+      dims = dims;
+      init = option_map
+          boxed_beginning_shown beginning;
+    } }
 {
     match beginning {
         None => Var {
@@ -80,7 +87,8 @@ fn var_of(id: Tok, dims: Dims, beginning: Option<(Tok, Box<Init>)>) -> Var
 /// A variable: its name, brackets, and what it begins with (JLS 8.3, 14.4).
 #[tactic(auto, unfolding(crate::specs::VarReads::var, rf_jexpr::specs::Reads::and_then))]
 pub(crate) fn var(alloc: Global, t: &[Tok], at: usize, room: u32) -> Result<Found<Var>, ParseErr>
-    ensures gives { GivesTree var_shown var_depth room t.now at result (var (parsers room) (drop at t.now)) }
+    ensures gives { GivesTree var_shown var_depth room t.now at result
+        (var (parsers room) (drop at t.now)) }
     ensures forth { IfOk result (λ x. at < x.end) }
 {
     let id = take(alloc, t, at, Want::Ident)?;
@@ -102,7 +110,8 @@ fn boxed_var(alloc: Global, var: Var) -> Result<Box<Var>, Memory>
 
 /// The first variable, behind a pointer.
 fn first_var(alloc: Global, t: &[Tok], at: usize, room: u32) -> Result<Found<Box<Var>>, ParseErr>
-    ensures { GivesTree boxed_var_shown var_depth room t.now at result (var (parsers room) (drop at t.now)) }
+    ensures { GivesTree boxed_var_shown var_depth room t.now at result
+        (var (parsers room) (drop at t.now)) }
 {
     let found = var(alloc, t, at, room)?;
     let end = found.end;
@@ -114,7 +123,8 @@ fn first_var(alloc: Global, t: &[Tok], at: usize, room: u32) -> Result<Found<Box
 /// A comma and a variable.
 #[tactic(auto, unfolding(rf_jexpr::specs::Reads::behind, rf_jexpr::specs::Reads::and_then))]
 fn next_var(alloc: Global, t: &[Tok], at: usize, room: u32) -> Result<Found<(Tok, Var)>, ParseErr>
-    ensures gives { GivesTree next_var_shown next_var_depth room t.now at result (behind (is_op COMMA) (var (parsers room)) (drop at t.now)) }
+    ensures gives { GivesTree next_var_shown next_var_depth room t.now at result
+        (behind (is_op COMMA) (var (parsers room)) (drop at t.now)) }
     ensures forth { IfOk result (λ x. at < x.end) }
 {
     let comma = take(alloc, t, at, Want::Op(COMMA))?;
@@ -134,7 +144,8 @@ fn more_vars(
     room: u32,
 ) -> Result<Found<List<(Tok, Var)>>, Memory>
     requires { at ≤ length t.now }
-    ensures { IfOk result (IsFound (map next_var_shown) (list_depth next_var_depth) room t.now at (many (behind (is_op COMMA) (var (parsers room))) (drop at t.now))) }
+    ensures { IfOk result (IsFound (map next_var_shown) (list_depth next_var_depth) room t.now at
+        (many (behind (is_op COMMA) (var (parsers room))) (drop at t.now))) }
 {
     let mut more = Found {
         tree: List::new(alloc),
@@ -150,7 +161,8 @@ fn more_vars(
 /// Variables with commas between them, one at least (JLS 8.3, 14.4).
 #[tactic(auto, unfolding(rf_jexpr::specs::Reads::separated, rf_jexpr::specs::Reads::and_then))]
 pub fn vars(alloc: Global, t: &[Tok], at: usize, room: u32) -> Result<Found<Many<Var>>, ParseErr>
-    ensures { GivesTree (many_shown var_shown) (many_depth var_depth) room t.now at result (separated COMMA (var (parsers room)) (drop at t.now)) }
+    ensures { GivesTree (many_shown var_shown) (many_depth var_depth) room t.now at result
+        (separated COMMA (var (parsers room)) (drop at t.now)) }
 {
     let first = first_var(alloc, t, at, room)?;
     let rest = more_vars(alloc, t, first.end, room)?;

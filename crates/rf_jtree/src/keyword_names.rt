@@ -128,7 +128,8 @@ pub const OPERAND_WORDS: [Kw; 3] = [THIS, SUPER, NEW];
 
 /// Each of the names is that of the keyword that its text spells.
 pub fn keywords_are_named()
-    ensures { map (λ name. keyword_of name.0) KEYWORD_NAMES ≡ map (λ name. Some name.1) KEYWORD_NAMES }
+    ensures { map (λ name. keyword_of name.0) KEYWORD_NAMES ≡ map (λ name. Some name.1)
+        KEYWORD_NAMES }
 {}
 
 /// A text that spells a keyword is the token of that keyword.

@@ -141,5 +141,6 @@ pub const MULTIPLICATIVES: [Op; 3] = [TIMES, DIVIDE, REMAINDER];
 
 /// Each of the names is that of the operator that its text spells.
 pub fn operators_are_named()
-    ensures { map (λ name. operator_of name.0) OPERATOR_NAMES ≡ map (λ name. Some name.1) OPERATOR_NAMES }
+    ensures { map (λ name. operator_of name.0) OPERATOR_NAMES ≡ map (λ name. Some name.1)
+        OPERATOR_NAMES }
 {}

@@ -168,7 +168,8 @@ pub fn query_fault<'a>(
     scope: &Scope<'_, 'a>,
     ask: &'a Ask,
 ) -> Option<Fault<'a>>
-    ensures { told_by result ≡ spec.query_fault (known_of program.entry) (levels scope.now) ask.now }
+    ensures { told_by result ≡ spec.query_fault (known_of program.entry) (levels scope.now)
+        ask.now }
 {
     let kinds = query_kinds(ask.name.text.as_slice(), program.lang);
     ask_fault(scope, b"query", ask, kinds)

@@ -50,7 +50,8 @@ fn quant_fault<'a>(
     quant: &'a Quant,
     scope: &Scope<'_, 'a>,
 ) -> Option<Fault<'a>>
-    ensures { told_by result ≡ spec.quant_fault (known_of program.entry) quant.now (levels scope.now) }
+    ensures { told_by result ≡ spec.quant_fault (known_of program.entry) quant.now
+        (levels scope.now) }
 {
     let vars = quant.vars.as_slice();
     if let Some(fault) = head_fault(program, vars, quant.asks.as_slice(), &*scope) {
@@ -67,7 +68,8 @@ pub fn form_fault<'a>(
     form: &'a RForm,
     scope: &Scope<'_, 'a>,
 ) -> Option<Fault<'a>>
-    ensures { told_by result ≡ spec.form_fault (known_of program.entry) form.now (levels scope.now) }
+    ensures { told_by result ≡ spec.form_fault (known_of program.entry) form.now
+        (levels scope.now) }
 {
     match form {
         RForm::Implies(left, right) => match form_fault(program, left.get(), scope) {

@@ -8,7 +8,8 @@ use rf_rtree::{Row, kinds};
 
 /// The row of a word.
 pub fn row_named(mut rows: &'static [Row], text: &[u8]) -> Option<&'static Row>
-    ensures { row_found (option_copied result) ≡ spec.entry_named text.now (map row_shown rows.entry.now) }
+    ensures { row_found (option_copied result) ≡ spec.entry_named text.now
+        (map row_shown rows.entry.now) }
 {
     while let [row, rest @ ..] = rows {
         if row.name == text {

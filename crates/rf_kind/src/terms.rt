@@ -12,7 +12,8 @@ use crate::scope::{Scope, var_named};
 use rf_rtree::{RTerm, Word, properties};
 
 fn fits_one(kind: &[u8], mut kinds: &[&[u8]]) -> bool
-    ensures { result ≡ list_any (kind_spec.is_part kind.now) (map (λ wanted. wanted.now) kinds.entry.now) }
+    ensures { result ≡ list_any (kind_spec.is_part kind.now)
+        (map (λ wanted. wanted.now) kinds.entry.now) }
 {
     while let [wanted, rest @ ..] = kinds {
         if is_part(kind, wanted) {
