@@ -2,7 +2,6 @@
 
 use rf_text::{Bytes, Memory};
 use std::alloc::Global;
-use std::collections::HashSet;
 use std::test::Fail;
 
 /// The bytes of `first`, then `more`, then `!`.
@@ -76,28 +75,14 @@ const RISING: [&[u8]; 9] = [
 #[test]
 fn texts_are_ordered_by_their_bytes(rt: HostRuntime) -> Result<(), Fail> {
     let alloc = rt.alloc();
-    for (i, left) in RISING.iter().enumerate() {
-        for (k, right) in RISING.iter().enumerate() {
-            let one = Bytes::from_slice(alloc, *left)?;
-            let other = given(alloc, *right)?;
+    for i in 0..RISING.len() {
+        for k in 0..RISING.len() {
+            let one = Bytes::from_slice(alloc, RISING[i])?;
+            let other = given(alloc, RISING[k])?;
             assert_eq!(rt; one.cmp(&other), i.cmp(&k));
             assert_eq!(rt; one.partial_cmp(&other), Some(i.cmp(&k)));
             assert_eq!(rt; one == other, i == k);
         }
-    }
-    Ok(())
-}
-
-#[test]
-fn equal_texts_are_one_key(rt: HostRuntime) -> Result<(), Fail> {
-    let alloc = rt.alloc();
-    let mut texts = HashSet::new(alloc);
-    for bytes in RISING {
-        assert!(rt; texts.insert(Bytes::from_slice(alloc, bytes)?)?);
-    }
-    for bytes in RISING {
-        assert!(rt; texts.contains(&given(alloc, bytes)?));
-        assert!(rt; !texts.contains(&grown(alloc, bytes, bytes)?));
     }
     Ok(())
 }
