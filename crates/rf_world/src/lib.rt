@@ -15,8 +15,6 @@ mod real_sink;
 mod real_world;
 mod sink;
 mod streams;
-#[cfg(test)]
-mod tests;
 mod world;
 
 pub use honest_sink::HonestSink;
