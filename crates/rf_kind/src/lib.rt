@@ -2,6 +2,7 @@
 #![tactic(auto)]
 
 mod asks;
+mod checking;
 mod compared;
 mod faults;
 mod forms;
@@ -12,5 +13,6 @@ mod scope;
 mod terms;
 mod told;
 
+pub use checking::{KindErr, check};
 pub use language::java_lang;
 pub use told::first_fault;
