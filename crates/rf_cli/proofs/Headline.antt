@@ -1,14 +1,14 @@
 -- What people read of a run, each from the way in which it ended.
-use Rattle.std.proofs.Common.{◌≡◌, ◌≢◌, ℕ, List, [], ◌⊎◌, Option, Some, None, IfSome, IsTrue, option_map, length, take, refl, sym, ap, subst, ◌∙◌, inl, inr}
+use Rattle.std.proofs.Common.{◌≡◌, ◌≢◌, ℕ, List, ◌⊎◌, Option, Some, None, IfSome, IsTrue, option_map, length, take, refl, sym, ap, subst, ◌∙◌, inl, inr}
 use Rattle.std.proofs.Math.Seq.{take-length}
 use Rattle.rf_world.specs.Fault.{Rose, next_count}
 use Rattle.rf_world.specs.World.{Files, MayHoldPrefix, with_file}
 use Rattle.rf_engine.specs.declared.first_form.FirstPath.{FirstPath}
 use Rattle.rf_engine.specs.declared.first_form.FirstPath.TheVariants.{Changed, Refused, NotYet}
-use Rattle.rf_engine.specs.FirstForm.{Form, answer_of}
+use Rattle.rf_engine.specs.FirstForm.{answer_of}
 use Rattle.rf_cli.specs.declared.status.Status.{Status}
 use Rattle.rf_cli.specs.declared.status.Status.TheVariants as status
-use Rattle.rf_cli.specs.Acting.{Acts, OnlyPuts, RunState, WriteEnd}
+use Rattle.rf_cli.specs.Acting.{Acts, RunState, WriteEnd}
 use Rattle.rf_cli.specs.Command.{Apply, IsApply}
 use Rattle.rf_cli.specs.Put.{IsPut, Puts, bad_words_line, not_yet_line, read_fault_line}
 use Rattle.rf_cli.specs.Reads.{HoldsForm, IsRight}

@@ -1,4 +1,5 @@
 pub mod Headline
 pub mod JavaFileLemmas
+pub mod ListingLemmas
 pub mod ReadLemmas
 pub mod WholeRunLemmas

@@ -2,12 +2,13 @@
 use Rattle.std.proofs.Common.{◌≡◌, ℕ, Bool, true, false, List, [], ◌∷◌, Option, Some, None, filter, IfSome, IsSome, is_some, not, refl, sym, ap, subst, ◌∙◌, true≢false}
 use Rattle.std.specs.Str.{bytes_eq}
 use Rattle.std.proofs.lemmas.Slice.Eq.{bytes_eq-Decides}
-use Rattle.rf_world.specs.World.{Files, IsListing}
+use Rattle.rf_world.specs.World.{Files}
 use Rattle.rf_jtree.specs.JavaPath.{is_java_path}
 use Rattle.rf_engine.specs.declared.first_form.FirstPath.{FirstPath}
 use Rattle.rf_engine.specs.declared.first_form.FirstPath.TheVariants.{NotYet}
 use Rattle.rf_engine.specs.FirstForm.{IsForm, IsAnswer}
 use Rattle.rf_cli.specs.Command.{Apply, no_library}
+use Rattle.rf_cli.specs.Listing.{IsOrdered}
 use Rattle.rf_cli.specs.Reads.{IsOnlyJava, IsRight}
 use Rattle.rf_cli.proofs.JavaFileLemmas.{lists_only, only_listed}
 
@@ -34,16 +35,16 @@ module _ (command : Apply) (path file request : List ℕ) (paths : List (List �
   right_among : (told listed read : Option Files) → listed ≡ told → read ≡ listed
       → command.lib ≡ no_library
       → IfSome told (λ files. files [] command.request ≡ Some request)
-      → IfSome listed (λ files. IsListing command.src files paths)
+      → IfSome listed (λ files. IsOrdered command.src files paths)
       → filter is_java_path paths ≡ path ∷ []
       → IfSome read (λ files. files command.src path ≡ Some file)
       → IsAnswer path file request answer
       → IfSome told (λ files. IsRight command files path answer)
   right_among None listed read e f alone g h one i decided = tt
   right_among (Some files) listed read e f alone g h one i decided =
-      let h' : IsListing command.src files paths = subst (λ o. IfSome o (λ files. IsListing command.src files paths)) e h in
+      let h' : IsOrdered command.src files paths = subst (λ o. IfSome o (λ files. IsOrdered command.src files paths)) e h in
       let i' : files command.src path ≡ Some file = subst (λ o. IfSome o (λ files. files command.src path ≡ Some file)) (f ∙ e) i in
-      right files alone g (only_listed command.src files paths h' path one).0 i' decided
+      right files alone g (only_listed command.src files paths h'.listing path one).0 i' decided
 
 was_true : (b : Bool) → not b ≡ false → b ≡ true
 was_true true e = refl
@@ -56,7 +57,7 @@ pub right_told : (command : Apply) (path file request empty dash : List ℕ) (pa
     → differs ≡ not (bytes_eq command.lib dash) → differs ≡ false → dash ≡ no_library
     → empty ≡ []
     → IfSome told (λ files. files empty command.request ≡ Some request)
-    → IfSome listed (λ files. IsListing command.src files paths)
+    → IfSome listed (λ files. IsOrdered command.src files paths)
     → slices ≡ paths → filter is_java_path slices ≡ found ∷ [] → path ≡ found
     → IfSome read (λ files. files command.src path_slice ≡ Some file)
     → path_slice ≡ path → file_slice ≡ file → request_slice ≡ request
@@ -73,26 +74,26 @@ right_told command path file request empty dash paths slices answer path_slice f
 
 -- where no Java path is alone in the listing, the files hold no form
 pub none_told : (command : Apply) (path : List ℕ) (paths slices : List (List ℕ)) (answer : FirstPath) (told listed : Option Files) → listed ≡ told
-    → IfSome listed (λ files. IsListing command.src files paths)
+    → IfSome listed (λ files. IsOrdered command.src files paths)
     → slices ≡ paths → ((at : List ℕ) → filter is_java_path slices ≡ at ∷ [] → ⊥)
     → answer ≡ NotYet
     → IfSome told (λ files. IsRight command files path answer)
 none_told command path paths slices answer None listed e h s none is = tt
 none_told command path paths slices answer (Some files) listed e h s none is =
-    let h' : IsListing command.src files paths = subst (λ o. IfSome o (λ files. IsListing command.src files paths)) e h in
+    let h' : IsOrdered command.src files paths = subst (λ o. IfSome o (λ files. IsOrdered command.src files paths)) e h in
     record {
-      of_form = λ at form holds. absurd (none at (ap (filter is_java_path) s ∙ lists_only command.src files paths h' at holds.only_file (ap is_some holds.file_is)));
+      of_form = λ at form holds. absurd (none at (ap (filter is_java_path) s ∙ lists_only command.src files paths h'.listing at holds.only_file (ap is_some holds.file_is)));
       some_form = λ some. absurd (some is);
     }
 
 -- and the one file can be read where the world is honest
 pub never_absent : (command : Apply) (path : List ℕ) (paths : List (List ℕ)) (told listed read : Option Files) → listed ≡ told → read ≡ listed → IsSome told
-    → IfSome listed (λ files. IsListing command.src files paths)
+    → IfSome listed (λ files. IsOrdered command.src files paths)
     → filter is_java_path paths ≡ path ∷ []
     → IfSome read (λ files. files command.src path ≡ None)
     → ⊥
 never_absent command path paths None listed read e f some h one i = absurd (true≢false (sym some))
 never_absent command path paths (Some files) listed read e f some h one i =
-    let h' : IsListing command.src files paths = subst (λ o. IfSome o (λ files. IsListing command.src files paths)) e h in
+    let h' : IsOrdered command.src files paths = subst (λ o. IfSome o (λ files. IsOrdered command.src files paths)) e h in
     let i' : files command.src path ≡ None = subst (λ o. IfSome o (λ files. files command.src path ≡ None)) (f ∙ e) i in
-    true≢false (sym (only_listed command.src files paths h' path one).1 ∙ ap is_some i')
+    true≢false (sym (only_listed command.src files paths h'.listing path one).1 ∙ ap is_some i')

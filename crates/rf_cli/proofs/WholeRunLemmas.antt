@@ -1,5 +1,5 @@
 -- What was decided, and what a put and a write may have come to.
-use Rattle.std.proofs.Common.{◌≡◌, ◌≢◌, ℕ, Bool, true, false, cond, List, [], ◌⊎◌, Option, Some, None, IfSome, IsSome, refl, sym, ap, subst, ◌∙◌, inl, inr}
+use Rattle.std.proofs.Common.{◌≡◌, ◌≢◌, ℕ, Bool, true, false, cond, List, [], ◌⊎◌, Option, Some, None, IfSome, IsSome, sym, subst, ◌∙◌, inl, inr}
 use Rattle.std.specs.List.{list_any}
 use Rattle.std.specs.Str.{bytes_eq}
 use Rattle.rf_world.specs.Fault.{Rose}
@@ -12,7 +12,7 @@ use Rattle.rf_cli.specs.declared.status.Status.{Status}
 use Rattle.rf_cli.specs.declared.status.Status.TheVariants as status
 use Rattle.rf_cli.specs.Acting.{RunState, WriteEnd, run_state, Acts}
 use Rattle.rf_cli.specs.Command.{Apply, IsApply}
-use Rattle.rf_cli.specs.Put.{IsPut, PutEnd, Puts, SinkState, write_fault_line}
+use Rattle.rf_cli.specs.Put.{IsPut, PutEnd, Puts, SinkState, PutsWriteFault}
 use Rattle.rf_cli.specs.Reads.{HoldsForm, IsRight}
 use Rattle.rf_cli.specs.WholeRun.{HasAnswer, HasNoForm, HasRequest}
 
@@ -105,13 +105,12 @@ acts_from out path answer files now reads reads_now writes writes_now honest hon
     subst (λ before. Acts out path answer before after result) (λ i. record { files = f i; reads = r i; writes = w i; honest = h i; sink = sink }) acts
 
 -- the write failed, told of the slices that the program passes on
-pub acts_failed : (out path bytes report path_slice bytes_slice line : List ℕ) (answer : FirstPath) (before after : RunState) (said : Status)
-    → answer ≡ Changed bytes report → path_slice ≡ path → bytes_slice ≡ bytes → line ≡ write_fault_line
+pub acts_failed : (out path bytes report path_slice bytes_slice : List ℕ) (answer : FirstPath) (before after : RunState) (result : Status)
+    → answer ≡ Changed bytes report → path_slice ≡ path → bytes_slice ≡ bytes → result ≡ status.WriteFault
     → MayHoldPrefix out path_slice bytes_slice before.files after.files → Rose before.writes after.writes
-    → IsPut status.WriteFault line before.sink after.sink said
-    → Acts out path answer before after status.WriteFault
-acts_failed out path bytes report path_slice bytes_slice line answer before after said a p b l files rose put =
+    → PutsWriteFault before.sink after.sink
+    → Acts out path answer before after result
+acts_failed out path bytes report path_slice bytes_slice answer before after result a p b is files rose told =
     let at_path : MayHoldPrefix out path bytes_slice before.files after.files = subst (λ x. MayHoldPrefix out x bytes_slice before.files after.files) p files in
     let part : MayHoldPrefix out path bytes before.files after.files = subst (λ x. MayHoldPrefix out path x before.files after.files) b at_path in
-    subst (λ x. Acts out path x before after status.WriteFault) (sym a)
-    (WriteEnd.failed refl part rose said (subst (λ x. IsPut status.WriteFault x before.sink after.sink said) l put))
+    subst (λ x. Acts out path x before after result) (sym a) (WriteEnd.failed is part rose told.0 told.1)

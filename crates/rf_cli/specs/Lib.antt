@@ -1,5 +1,6 @@
 pub mod Acting
 pub mod Command
+pub mod Listing
 pub mod Put
 pub mod Reads
 pub mod RunEnd

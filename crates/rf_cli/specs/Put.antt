@@ -48,3 +48,7 @@ pub data PutEnd (wanted : Status) (line : List ℕ) (before after : SinkState) (
 pub record IsPut (wanted : Status) (line : List ℕ) (before after : SinkState) (result : Status) : Type 0 where
   pub once : after.puts ≡ next_count before.puts
   pub end : PutEnd wanted line before after result
+
+-- `write fault` was put, in one put, however that put ended
+abbrev pub PutsWriteFault : SinkState → SinkState → Type 0
+PutsWriteFault before after = (said : Status) × IsPut status.WriteFault write_fault_line before after said

@@ -5,6 +5,7 @@ ghost use Rattle.rf_cli.specs.Reads.{IsRight};
 
 use crate::command::ApplyWords;
 use crate::java_files::only_java;
+use crate::listing::in_order;
 use rf_engine::{FirstPath, first_path};
 use rf_text::Bytes;
 use rf_world::{World, WorldErr};
@@ -19,7 +20,7 @@ pub(crate) struct Decision {
 
 /// Reads what the command names and decides what is to be done. No file is written.
 ///
-/// The request is read first, then SRC is listed, then its one Java file is read.
+/// The request is read first, then SRC is listed in byte order, then its one Java file is read.
 pub(crate) fn decide<W: World>(
     alloc: Global,
     command: &ApplyWords<'_>,
@@ -41,7 +42,7 @@ pub(crate) fn decide<W: World>(
         return Ok(not_yet(alloc));
     }
     let request = world.read(alloc, b"", command.request)?;
-    let paths = world.list(alloc, command.src)?;
+    let paths = in_order(alloc, command.src, world)?;
     let Some(path) = only_java(paths.as_slice()) else {
         return Ok(not_yet(alloc));
     };

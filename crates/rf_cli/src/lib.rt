@@ -4,6 +4,7 @@
 mod command;
 mod decide;
 mod java_files;
+mod listing;
 mod put;
 mod status;
 mod whole_run;

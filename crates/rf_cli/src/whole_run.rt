@@ -8,7 +8,7 @@ ghost use Rattle.rf_cli.specs.WholeRun.{AreBadWords, CountsAreSame, HasNoForm, H
 use crate::Status;
 use crate::command::{ApplyWords, parse};
 use crate::decide::{Decision, decide};
-use crate::put::put;
+use crate::put::{put, put_write_fault};
 use rf_engine::FirstPath;
 use rf_text::Bytes;
 use rf_world::{Sink, World, WorldErr};
@@ -121,10 +121,7 @@ fn act<W: World, S: Sink>(
             bytes.as_slice(),
         ) {
             Ok(()) => put(alloc, out, report.as_slice(), Status::Ok),
-            Err(WorldErr::Failed) => {
-                let _said = put(alloc, out, b"write fault\n", Status::WriteFault);
-                Status::WriteFault
-            }
+            Err(WorldErr::Failed) => put_write_fault(alloc, out),
             Err(WorldErr::Memory) => Status::Memory,
         },
     }
