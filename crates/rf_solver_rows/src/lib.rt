@@ -1,0 +1,7 @@
+//! Tests of the solver's crates, on their public items.
+#![tactic(auto)]
+
+#[cfg(test)]
+mod bits;
+#[cfg(test)]
+mod formulas;
