@@ -11,3 +11,4 @@ pub mod Counts
 pub mod AtomLemmas
 pub mod ManyLemmas
 pub mod Mentioned
+pub mod Fits

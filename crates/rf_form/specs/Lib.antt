@@ -9,3 +9,4 @@ pub mod Constraints
 pub mod Alive
 pub mod Atoms
 pub mod Mentions
+pub mod Fitting

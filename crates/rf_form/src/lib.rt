@@ -4,6 +4,7 @@
 
 mod atoms;
 mod domains;
+mod fitting;
 mod forms;
 mod kleene;
 mod laws;
