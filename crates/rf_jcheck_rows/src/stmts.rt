@@ -35,7 +35,7 @@ fn few_expressions_are_statements(rt: HostRuntime) -> Result<(), Fail> {
 fn a_try_has_a_catch_or_a_finally(rt: HostRuntime) -> Result<(), Fail> {
     let t = Trees { rt: &rt };
     assert!(rt; !stmt_fits(&t.try_with(None)));
-    let last = Some((t.tok("finally"), t.block()));
+    let last = Some((t.tok("finally"), t.boxed(t.block())));
     assert!(rt; stmt_fits(&t.try_with(last)));
     Ok(())
 }

@@ -1,4 +1,4 @@
-//! Tests of tokens: words and operators, new names, spans and dotted names.
+//! Tests of tokens: words and operators, new names and dotted names.
 #![tactic(auto)]
 
 #[cfg(test)]

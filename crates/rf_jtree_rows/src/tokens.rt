@@ -1,7 +1,7 @@
-//! Copies of tokens, the spans of their texts, and the text of a dotted name.
+//! Copies of tokens, and the text of a dotted name.
 
-use rf_jtree::{Dotted, Name, Tok, TokKind, Toks, operator, spans};
-use rf_text::{Bytes, List, Memory, Span};
+use rf_jtree::{Dotted, Name, Tok, TokKind, Toks, operator};
+use rf_text::{Bytes, List, Memory};
 use std::alloc::Global;
 use std::test::Fail;
 
@@ -22,18 +22,19 @@ fn toks(alloc: Global) -> Result<Toks, Memory> {
     Ok(Toks { list, tail })
 }
 
-fn are_at(spans: &[Span], want: &[(u32, u32)]) -> bool {
-    spans.len() == want.len()
-        && spans.iter().zip(want).all(|(span, (from, to))| span.file == 7
-            && span.from == *from
-            && span.to == *to)
-}
-
 #[test]
-fn a_span_begins_behind_the_lead(rt: HostRuntime) -> Result<(), Fail> {
+fn a_copy_has_the_same_tokens_and_tail(rt: HostRuntime) -> Result<(), Fail> {
     let toks = toks(rt.alloc())?.copy(rt.alloc())?;
-    let spans = spans(rt.alloc(), 7, &toks)?;
-    assert!(rt; are_at(spans.as_slice(), &[(1, 3), (8, 9), (10, 11)]));
+    assert_eq!(rt; toks.list.len(), 3);
+    assert_eq!(rt;
+        toks.list.get(1).map(|tok| tok.lead.as_slice()),
+        Some(b" /**/".as_slice())
+    );
+    assert_eq!(rt;
+        toks.list.get(2).map(|tok| tok.text.as_slice()),
+        Some(b"c".as_slice())
+    );
+    assert_eq!(rt; toks.tail.as_slice(), b" ".as_slice());
     Ok(())
 }
 
