@@ -10,7 +10,7 @@ const RENAMED: &[u8] = b"class A{int g;int h=g;}";
 
 const TO_G: &[u8] = b"rename field A.f to g";
 
-const ALONE: &[(&str, &str, &[u8])] = &[("src", "A.java", CLASS), ("", "req", TO_G)];
+pub(crate) const ALONE: &[(&str, &str, &[u8])] = &[("src", "A.java", CLASS), ("", "req", TO_G)];
 
 const RENAME: Example<'static> = Example {
     name: "a field is renamed where it is declared and where it is used",

@@ -4,6 +4,10 @@
 #[cfg(test)]
 mod example;
 #[cfg(test)]
+mod faults;
+#[cfg(test)]
 mod first_form;
 #[cfg(test)]
 mod real_files;
+#[cfg(test)]
+mod starved;
