@@ -1,4 +1,4 @@
-ghost use Rattle.std.specs.Prelude.{◌≡◌, ◌↔◌, IsTrue, IsSome, IsNone, IfSome, option_map};
+ghost use Rattle.std.specs.Prelude.{◌≡◌, ◌↔◌, IsTrue, IsSome, IfSome, option_map};
 ghost use Rattle.rf_jtree.specs.declared.tokens.Tok.{Tok};
 ghost use Rattle.rf_jtree.specs.DeclFits.{MemberFits, is_semi, ClassTakes, IsInterfaceMethod, EachBegins, IsInterfaceField, InterfaceTakes, IsOneName, IsClass, IsInterface, DeclFits};
 ghost use Rattle.rf_jtree.specs.DeclShown.{names_shown, body_shown, member_shown, members_shown, decl_shown};

@@ -1,32 +1,17 @@
-ghost use Rattle.std.specs.Prelude.{◌≡◌, ◌↔◌, IsTrue, IfSome, false, option_map};
+ghost use Rattle.std.specs.Prelude.{◌↔◌, IsTrue, IfSome, option_map};
 ghost use Rattle.rf_jtree.specs.Kinds.{IsOp, IsStr};
-ghost use Rattle.rf_jtree.specs.NameFits.{EachFits, ManyFit, IsMarkName, IsSuppressName, ParensFit, StrsFit, IsSuppress, ModFits, key_number, is_same_mod, NoneStandsTwice, is_access, HasOneAccessAtMost, ModsFit};
+ghost use Rattle.rf_jtree.specs.NameFits.{EachFits, ManyFit, ParensFit, StrsFit, IsSuppress, ModFits, ModsFit};
 ghost use Rattle.rf_jtree.specs.NameShown.{toks_shown, strs_shown, mod_shown, mods_shown};
 
 use crate::name_checks::{are_braces, are_parens};
-use rf_jfit::{is_ident, is_key_of, is_op, is_str};
-use rf_jtree::keyword_names::{ACCESSES, MODIFIERS};
+use rf_jfit::{
+    has_one_access_at_most, is_key_of, is_mark_name, is_op, is_str, is_suppress_name,
+    none_stands_twice,
+};
+use rf_jtree::keyword_names::MODIFIERS;
 use rf_jtree::operator_names::{AT, COMMA};
-use rf_jtree::{Many, Mod, Strs, Tok, TokKind};
+use rf_jtree::{Many, Mod, Strs, Tok};
 use rf_text::List;
-
-fn has_text(tok: &Tok, text: &[u8]) -> bool
-    ensures { IsTrue result ↔ (tok.now.text ≡ text.now) }
-{
-    tok.text.as_slice() == text
-}
-
-fn is_mark_name(id: &Tok) -> bool
-    ensures { IsTrue result ↔ IsMarkName id.now }
-{
-    is_ident(id) && (has_text(id, b"Override") || has_text(id, b"Deprecated"))
-}
-
-fn is_suppress_name(id: &Tok) -> bool
-    ensures { IsTrue result ↔ IsSuppressName id.now }
-{
-    is_ident(id) && has_text(id, b"SuppressWarnings")
-}
 
 fn more_strs_fit(rest: &[(Tok, Tok)]) -> bool
     ensures { IsTrue result ↔ EachFits (λ item. IsOp COMMA item.0 × IsStr item.1) rest.now }
@@ -87,83 +72,12 @@ pub fn mod_fits(one: &Mod) -> bool
     }
 }
 
-fn key_number(tok: &Tok) -> u8
-    ensures { result ≡ key_number tok.now.kind }
-{
-    match tok.kind {
-        TokKind::Key(word) => word.0,
-        _ => 50,
-    }
-}
-
-fn is_same_mod(one: &Mod, other: &Mod) -> bool
-    ensures { result ≡ is_same_mod (mod_shown one.now) (mod_shown other.now) }
-{
-    match (one, other) {
-        (Mod::Word(one), Mod::Word(other)) => key_number(one) == key_number(other),
-        (Mod::Mark { id, .. }, Mod::Mark { id: other, .. }) => id.text.as_slice()
-            == other.text.as_slice(),
-        (Mod::Suppress { id, .. }, Mod::Suppress { id: other, .. }) => id.text.as_slice()
-            == other.text.as_slice(),
-        (Mod::Word(_), Mod::Mark { .. } | Mod::Suppress { .. })
-        | (Mod::Mark { .. }, Mod::Word(_) | Mod::Suppress { .. })
-        | (Mod::Suppress { .. }, Mod::Word(_) | Mod::Mark { .. }) => false,
-    }
-}
-
-fn is_new_to(one: &Mod, others: &[Mod]) -> bool
-    ensures { IsTrue result ↔ EachFits (λ other. is_same_mod (mod_shown one.now) other ≡ false)
-        (mods_shown others.now) }
-{
-    match others {
-        [] => true,
-        [other, more @ ..] => !is_same_mod(one, other) && is_new_to(one, more),
-    }
-}
-
-fn none_stands_twice(mods: &[Mod]) -> bool
-    ensures { IsTrue result ↔ NoneStandsTwice (mods_shown mods.now) }
-{
-    match mods {
-        [] => true,
-        [one, more @ ..] => is_new_to(one, more) && none_stands_twice(more),
-    }
-}
-
 fn each_mod_fits(mods: &[Mod]) -> bool
     ensures { IsTrue result ↔ EachFits ModFits (mods_shown mods.now) }
 {
     match mods {
         [] => true,
         [one, more @ ..] => mod_fits(one) && each_mod_fits(more),
-    }
-}
-
-fn is_access(one: &Mod) -> bool
-    ensures { result ≡ is_access (mod_shown one.now) }
-{
-    match one {
-        Mod::Word(tok) => is_key_of(tok, &ACCESSES),
-        Mod::Mark { .. } | Mod::Suppress { .. } => false,
-    }
-}
-
-fn has_no_access(mods: &[Mod]) -> bool
-    ensures { IsTrue result ↔ EachFits (λ one. is_access one ≡ false) (mods_shown mods.now) }
-{
-    match mods {
-        [] => true,
-        [one, more @ ..] => !is_access(one) && has_no_access(more),
-    }
-}
-
-fn has_one_access_at_most(mods: &[Mod]) -> bool
-    ensures { IsTrue result ↔ HasOneAccessAtMost (mods_shown mods.now) }
-{
-    match mods {
-        [] => true,
-        [one, more @ ..] => (!is_access(one) || has_no_access(more))
-            && has_one_access_at_most(more),
     }
 }
 

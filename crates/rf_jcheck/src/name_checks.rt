@@ -1,7 +1,7 @@
 ghost use Rattle.std.specs.Prelude.{◌≡◌, ◌↔◌, IsTrue};
-ghost use Rattle.rf_jtree.specs.Kinds.{IsOp, IsIdent, IsStr, AreParens, AreBrackets, AreBraces};
-ghost use Rattle.rf_jtree.specs.NameFits.{EachFits, ManyFit, NameFits, BracketsFit, DimsFit, BaseFits, TypeFits, IsMarkName, IsSuppressName, ParensFit, StrsFit, IsSuppress, ModFits};
-ghost use Rattle.rf_jtree.specs.NameShown.{toks_shown, name_shown, base_shown, type_shown, strs_shown, mod_shown};
+ghost use Rattle.rf_jtree.specs.Kinds.{IsOp, IsIdent, AreParens, AreBrackets, AreBraces};
+ghost use Rattle.rf_jtree.specs.NameFits.{EachFits, NameFits, BracketsFit, DimsFit, BaseFits, TypeFits};
+ghost use Rattle.rf_jtree.specs.NameShown.{name_shown, base_shown, type_shown};
 
 use rf_jfit::{is_ident, is_key_of, is_op, is_str};
 use rf_jtree::keyword_names::{MODIFIERS, PRIMITIVES};

@@ -2,7 +2,7 @@ ghost use Rattle.std.specs.Prelude.{◌↔◌, IsTrue, IfSome, option_map};
 ghost use Rattle.rf_jtree.specs.declared.tokens.Tok.{Tok};
 ghost use Rattle.rf_jtree.specs.Kinds.{IsOp};
 ghost use Rattle.rf_jtree.specs.NameFits.{EachFits, ManyFit};
-ghost use Rattle.rf_jtree.specs.NameShown.{many_shown, mod_shown, mods_shown};
+ghost use Rattle.rf_jtree.specs.NameShown.{many_shown, mods_shown};
 ghost use Rattle.rf_jtree.specs.StmtFits.{IsFinalOrAnnotation, VariableModsFit, BeginningFits, VarFits, LocalFits, FirstFits};
 ghost use Rattle.rf_jtree.specs.StmtTrees.{VarTree};
 ghost use Rattle.rf_jtree.specs.StmtShown.{beginning_shown, var_shown, more_vars_shown, local_shown, first_shown};
@@ -10,20 +10,10 @@ ghost use Rattle.rf_jtree.specs.StmtShown.{beginning_shown, var_shown, more_vars
 use crate::expr_checks::{exprs_fit, init_fits};
 use crate::mod_checks::mods_fit;
 use crate::name_checks::{dims_fit, type_fits};
-use rf_jfit::{are_statement_exprs, is_ident, is_key, is_op};
-use rf_jtree::keyword_names::FINAL;
+use rf_jfit::{are_statement_exprs, is_final_or_annotation, is_ident, is_op};
 use rf_jtree::operator_names::{ASSIGN, COMMA};
 use rf_jtree::{ForFirst, Init, Local, Many, Mod, Tok, Var};
 use rf_text::List;
-
-fn is_final_or_annotation(modifier: &Mod) -> bool
-    ensures { IsTrue result ↔ IsFinalOrAnnotation (mod_shown modifier.now) }
-{
-    match modifier {
-        Mod::Word(tok) => is_key(tok, FINAL),
-        Mod::Mark { .. } | Mod::Suppress { .. } => true,
-    }
-}
 
 fn are_final_and_annotations(mods: &[Mod]) -> bool
     ensures { IsTrue result ↔ EachFits IsFinalOrAnnotation (mods_shown mods.now) }

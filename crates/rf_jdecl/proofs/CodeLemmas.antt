@@ -7,7 +7,7 @@ use Rattle.rf_jtree.specs.declared.keyword_names.TheConstants.{CLASS, INTERFACE,
 use Rattle.rf_jtree.specs.DeclTrees.{UnitTree}
 use Rattle.rf_jexpr.specs.Reads.{Reads, is_key, begins, token, when}
 use Rattle.rf_jexpr.proofs.TurnLemmas.{IsAtTurn, first-turn, next-turn}
-use Rattle.rf_jstmt.specs.ModReads.{goes_on_with}
+use Rattle.rf_jmods.specs.ModReads.{goes_on_with}
 use Rattle.rf_jdecl.specs.MemberReads.{calls_ctor}
 use Rattle.rf_jdecl.specs.UnitReads.{begins_type, all_read}
 

@@ -12,7 +12,8 @@ use Rattle.rf_jtree.specs.StmtTrees.{VarTree}
 use Rattle.rf_jexpr.specs.Reads.{is_key}
 use Rattle.rf_jexpr.proofs.StopLemmas.{not_true, not_false}
 use Rattle.rf_jexpr.proofs.Tools.{both, and_true, is_key-IsKey, IsKey-is_key}
-use Rattle.rf_jstmt.proofs.TestLemmas.{list_all-each, each-list_all, or_true, first_true, second_true}
+use Rattle.rf_jfit.proofs.EachLemmas.{list_all-each, each-list_all}
+use Rattle.rf_jmods.proofs.ModTestLemmas.{or_true, first_true, second_true}
 use Rattle.rf_jdecl.specs.DeclTests.{is_empty, is_visible, has_right_body, class_takes, is_one_name, is_class, is_interface_method, begins_with_some, is_interface_field, interface_takes, is_interface, decl_fits, names_package}
 use Rattle.rf_jdecl.specs.MemberReads.{calls_ctor, is_ctor_mod}
 

@@ -15,10 +15,10 @@ use Rattle.rf_jexpr.proofs.CompleteNames.{Anything, name-exact, dims-exact, type
 use Rattle.rf_jexpr.proofs.CompleteParts.{reads-same}
 use Rattle.rf_jexpr.proofs.LoopLemmas.{IsExact, separated-exact}
 use Rattle.rf_jexpr.proofs.Tools.{bind-Some, bind-None, if-false, when-true, token-at, token-other, optional-Some, optional-None, IsOp-is_op, IsKey-is_key, IsIdent-is_ident}
-use Rattle.rf_jstmt.specs.ModReads.{word, modifier}
-use Rattle.rf_jstmt.specs.StmtTests.{mods_fit}
-use Rattle.rf_jstmt.proofs.ExactMods.{NoMod, mods-exact, variable_mods-exact, type_no_mod}
-use Rattle.rf_jstmt.proofs.TestLemmas.{Fit-mods_fit}
+use Rattle.rf_jmods.specs.ModReads.{word, modifier}
+use Rattle.rf_jmods.specs.ModTests.{mods_fit}
+use Rattle.rf_jmods.proofs.ExactMods.{NoMod, mods-exact, variable_mods-exact, type_no_mod}
+use Rattle.rf_jmods.proofs.ModTestLemmas.{Fit-mods_fit}
 use Rattle.rf_jdecl.specs.HeadReads.{fitting_mods, names_behind, param, params}
 
 pub fitting_mods-exact : IsExact ModsFit NoMod mods_yield fitting_mods

@@ -19,11 +19,11 @@ use Rattle.rf_jexpr.proofs.CompleteParts.{reads-same}
 use Rattle.rf_jexpr.proofs.CompleteRooms.{parsers-complete}
 use Rattle.rf_jexpr.proofs.LoopLemmas.{IsExact, many-exact}
 use Rattle.rf_jexpr.proofs.Tools.{bind-Some, bind-None, if-true, if-false, token-at, token-other, optional-Some, optional-None, IsOp-is_op, IsKey-is_key, IsIdent-is_ident}
-use Rattle.rf_jstmt.specs.ModReads.{goes_on_with, modifier, word}
+use Rattle.rf_jmods.specs.ModReads.{goes_on_with, modifier, word}
 use Rattle.rf_jstmt.specs.StmtParts.{block}
 use Rattle.rf_jstmt.specs.StmtReads.{stmt_parsers}
 use Rattle.rf_jstmt.specs.VarReads.{var}
-use Rattle.rf_jstmt.proofs.ExactMods.{NoMod}
+use Rattle.rf_jmods.proofs.ExactMods.{NoMod}
 use Rattle.rf_jstmt.proofs.ExactParts.{AreExactStmts, block-exact}
 use Rattle.rf_jstmt.proofs.ExactVars.{AreExact, semi_ends, vars_good, vars-exact}
 use Rattle.rf_jdecl.specs.HeadReads.{begins_callable}

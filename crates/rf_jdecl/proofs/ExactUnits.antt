@@ -17,9 +17,9 @@ use Rattle.rf_jexpr.proofs.CompleteParts.{reads-same}
 use Rattle.rf_jexpr.proofs.LoopLemmas.{IsExact, many-exact, separated-exact}
 use Rattle.rf_jexpr.proofs.Tools.{bind-Some, bind-None, when-true, token-at, token-other, optional-Some, optional-None, IsOp-is_op, IsKey-is_key, IsIdent-is_ident}
 use Rattle.rf_jstmt.specs.StmtReads.{stmt_parsers}
-use Rattle.rf_jstmt.proofs.ExactMods.{NoMod}
+use Rattle.rf_jmods.proofs.ExactMods.{NoMod}
 use Rattle.rf_jstmt.proofs.ExactParts.{AreExactStmts}
-use Rattle.rf_jstmt.proofs.TestLemmas.{first_true, second_true}
+use Rattle.rf_jmods.proofs.ModTestLemmas.{first_true, second_true}
 use Rattle.rf_jdecl.specs.UnitReads.{begins_type, any_decl, type_decl, on_demand, import_decl, package_clause, front_unit, all_read, whole_unit}
 use Rattle.rf_jdecl.proofs.DeclTestLemmas.{Is-decl_fits, Is-names_package}
 use Rattle.rf_jdecl.proofs.ExactHeads.{EndsNames, fitting_mods-exact, optional_names-exact}

@@ -19,8 +19,8 @@ use Rattle.rf_jtree.specs.StmtTrees.{VarTree, var_yield}
 use Rattle.rf_jexpr.specs.Reads.{is_op, is_key, is_ident, begins}
 use Rattle.rf_jexpr.proofs.StopLemmas.{false_or, false_and}
 use Rattle.rf_jexpr.proofs.Tools.{holds, fails, whether, and_true, bind-None, if-false, token-other, is_key-IsKey, IsOp-is_op, IsIdent-is_ident}
-use Rattle.rf_jstmt.specs.ModReads.{goes_on_with, modifier, word}
-use Rattle.rf_jstmt.proofs.ExactMods.{NoParen, NoMod, ident_no_mod, type_no_mod}
+use Rattle.rf_jmods.specs.ModReads.{goes_on_with, modifier, word}
+use Rattle.rf_jmods.proofs.ExactMods.{NoParen, NoMod, ident_no_mod, type_no_mod}
 use Rattle.rf_jdecl.specs.HeadReads.{begins_callable}
 use Rattle.rf_jdecl.specs.MemberReads.{begins_initializer}
 

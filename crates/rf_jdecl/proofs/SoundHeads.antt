@@ -12,12 +12,12 @@ use Rattle.rf_jexpr.specs.Reads.{is_op, is_key, is_ident, optional, behind, sepa
 use Rattle.rf_jexpr.proofs.LoopLemmas.{IsSound, separated-sound}
 use Rattle.rf_jexpr.proofs.SoundNames.{optional-sound, name-sound, dims-sound, type_use-sound}
 use Rattle.rf_jexpr.proofs.Tools.{is_op-IsOp, is_key-IsKey, is_ident-IsIdent}
-use Rattle.rf_jstmt.specs.ModReads.{mods}
-use Rattle.rf_jstmt.specs.StmtTests.{mods_fit}
-use Rattle.rf_jstmt.specs.VarReads.{variable_mods}
-use Rattle.rf_jstmt.proofs.SoundMods.{mods-sound, variable_mods-sound}
-use Rattle.rf_jstmt.proofs.Steps.{step_tok, step_part, step_when, done, tok_then, part_then, at_last, tok_last}
-use Rattle.rf_jstmt.proofs.TestLemmas.{mods_fit-Fit}
+use Rattle.rf_jmods.specs.ModReads.{mods}
+use Rattle.rf_jmods.specs.ModTests.{mods_fit}
+use Rattle.rf_jmods.specs.ModReads.{variable_mods}
+use Rattle.rf_jmods.proofs.SoundMods.{mods-sound, variable_mods-sound}
+use Rattle.rf_jmods.proofs.Steps.{step_tok, step_part, step_when, done, tok_then, part_then, at_last, tok_last}
+use Rattle.rf_jmods.proofs.ModTestLemmas.{mods_fit-Fit}
 use Rattle.rf_jdecl.specs.HeadReads.{fitting_mods, names_behind, param, params}
 
 pub fitting_mods-sound : IsSound ModsFit mods_yield fitting_mods

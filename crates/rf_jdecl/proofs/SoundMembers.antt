@@ -25,7 +25,7 @@ use Rattle.rf_jstmt.specs.StmtReads.{stmt_parsers}
 use Rattle.rf_jstmt.specs.VarReads.{var}
 use Rattle.rf_jstmt.proofs.SoundParts.{AreSoundStmts, stmts-sound, block-sound}
 use Rattle.rf_jstmt.proofs.SoundVars.{vars-sound, vars-fit, vars-shallow}
-use Rattle.rf_jstmt.proofs.Steps.{step_tok, step_part, step_when, done, tok_then, part_then, at_last, tok_last, max_le}
+use Rattle.rf_jmods.proofs.Steps.{step_tok, step_part, step_when, done, tok_then, part_then, at_last, tok_last, max_le}
 use Rattle.rf_jdecl.specs.HeadReads.{fitting_mods, names_behind, params, begins_callable}
 use Rattle.rf_jdecl.specs.MemberReads.{stray, begins_initializer, initializer, calls_ctor, ctor_call, is_ctor_mod, ctor, block_body, no_body, body, method, void_method, field, typed, behind_mods, modified, member, members}
 use Rattle.rf_jdecl.proofs.DeclTestLemmas.{calls_ctor-Is, ctor_mods-Fit}

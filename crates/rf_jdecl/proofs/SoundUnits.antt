@@ -16,7 +16,7 @@ use Rattle.rf_jexpr.proofs.SoundNames.{token-sound, optional-sound, name-sound}
 use Rattle.rf_jexpr.proofs.Tools.{bound, of_bind, token_takes, is_op-IsOp, is_key-IsKey, is_ident-IsIdent, by_some}
 use Rattle.rf_jstmt.specs.StmtReads.{stmt_parsers}
 use Rattle.rf_jstmt.proofs.SoundParts.{AreSoundStmts}
-use Rattle.rf_jstmt.proofs.Steps.{step_tok, step_part, step_when, done, tok_then, part_then, at_last, tok_last, max_le}
+use Rattle.rf_jmods.proofs.Steps.{step_tok, step_part, step_when, done, tok_then, part_then, at_last, tok_last, max_le}
 use Rattle.rf_jdecl.specs.DeclTests.{decl_fits, names_package}
 use Rattle.rf_jdecl.specs.HeadReads.{fitting_mods, names_behind}
 use Rattle.rf_jdecl.specs.MemberReads.{members}

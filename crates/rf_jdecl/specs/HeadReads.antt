@@ -7,9 +7,9 @@ use Rattle.rf_jtree.specs.DeclTrees.{ParamTree, ParamsTree}
 use Rattle.rf_jtree.specs.NameTrees.{ManyTree, NameTree, ModTree}
 use Rattle.rf_jexpr.specs.NameReads.{name, dims, type_use}
 use Rattle.rf_jexpr.specs.Reads.{Reads, ◌>>=◌, when, is_op, is_key, is_ident, begins, token, optional, behind, separated}
-use Rattle.rf_jstmt.specs.ModReads.{mods, goes_on_with}
-use Rattle.rf_jstmt.specs.StmtTests.{mods_fit}
-use Rattle.rf_jstmt.specs.VarReads.{variable_mods}
+use Rattle.rf_jmods.specs.ModReads.{mods, goes_on_with}
+use Rattle.rf_jmods.specs.ModTests.{mods_fit}
+use Rattle.rf_jmods.specs.ModReads.{variable_mods}
 
 -- the modifiers of a member or a type (JLS 8.1.1, 8.3.1, 8.4.3)
 unfoldable pub fitting_mods : Reads (List ModTree)

@@ -12,7 +12,7 @@ use Rattle.rf_jexpr.specs.Descent.{parsers}
 use Rattle.rf_jexpr.specs.NameReads.{type_use}
 use Rattle.rf_jexpr.specs.PartReads.{args}
 use Rattle.rf_jexpr.specs.Reads.{Reads, ◌>>=◌, when, is_op, is_key, is_ident, begins, token, optional, many, separated}
-use Rattle.rf_jstmt.specs.ModReads.{goes_on_with}
+use Rattle.rf_jmods.specs.ModReads.{goes_on_with}
 use Rattle.rf_jstmt.specs.StmtParts.{stmts, block}
 use Rattle.rf_jstmt.specs.StmtReads.{stmt_parsers}
 use Rattle.rf_jstmt.specs.VarReads.{var}

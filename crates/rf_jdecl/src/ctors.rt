@@ -63,16 +63,8 @@ fn some_call(
         (optional (ctor_call room) (drop at t.now))) }
 {
     match attempt(ctor_call(alloc, t, at, room))? {
-        Some(found) => Ok(Found {
-            tree: Some(found.tree),
-            end: found.end,
-            depth: found.depth,
-        }),
-        None => Ok(Found {
-            tree: None,
-            end: at,
-            depth: 0,
-        }),
+        Some(found) => Ok(found.there()),
+        None => Ok(Found::left_out(at)),
     }
 }
 

@@ -3,7 +3,7 @@ ghost use Rattle.rf_jtree.specs.declared.operator_names.TheConstants.{LEFT_BRACE
 ghost use Rattle.rf_jtree.specs.declared.keyword_names.TheConstants.{STATIC};
 ghost use Rattle.rf_jexpr.specs.Gives.{passes};
 ghost use Rattle.rf_jexpr.specs.Reads.{begins, is_key, is_op};
-ghost use Rattle.rf_jstmt.specs.ModReads.{goes_on_with};
+ghost use Rattle.rf_jmods.specs.ModReads.{goes_on_with};
 ghost use Rattle.rf_jdecl.specs.HeadReads.{begins_callable};
 ghost use Rattle.rf_jdecl.specs.MemberReads.{begins_initializer};
 ghost use Rattle.rf_jdecl.specs.UnitReads.{begins_type};

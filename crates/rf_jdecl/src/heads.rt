@@ -8,8 +8,8 @@ ghost use Rattle.rf_jexpr.specs.Reads.{is_op, many, behind, separated, optional}
 ghost use Rattle.rf_jdecl.specs.DeclMade.{name_item_shown, param_item_shown};
 ghost use Rattle.rf_jdecl.specs.HeadReads.{fitting_mods, names_behind, param, params};
 
-use rf_jexpr::{ParseErr, Taken, Want, attempt, dims, name, take, type_use};
-use rf_jstmt::{mods, mods_fit, variable_mods};
+use rf_jexpr::{ParseErr, Taken, Want, attempt, dims, many_of, name, take, type_use};
+use rf_jmods::{mods, mods_fit, variable_mods};
 use rf_jtree::operator_names::{COMMA, LEFT_PAREN, RIGHT_PAREN};
 use rf_jtree::{Kw, Many, Mod, Name, Param, Params, Tok};
 use rf_text::{List, Memory};
@@ -70,12 +70,8 @@ fn names(alloc: Global, t: &[Tok], at: usize) -> Result<Taken<Many<Name>>, Parse
 {
     let first = name(alloc, t, at)?;
     let rest = more_names(alloc, t, first.end)?;
-    let list = Many {
-        first: Box::new(alloc, first.item)?,
-        rest: rest.item,
-    };
     Ok(Taken {
-        item: list,
+        item: many_of(alloc, first.item, rest.item)?,
         end: rest.end,
     })
 }
@@ -111,14 +107,8 @@ pub(crate) fn some_names(
         (optional (names_behind key) (drop at t.now))) }
 {
     match attempt(names_behind(alloc, t, at, key))? {
-        Some(found) => Ok(Taken {
-            item: Some(found.item),
-            end: found.end,
-        }),
-        None => Ok(Taken {
-            item: None,
-            end: at,
-        }),
+        Some(found) => Ok(found.there()),
+        None => Ok(Taken::left_out(at)),
     }
 }
 
@@ -184,12 +174,8 @@ fn many_params(alloc: Global, t: &[Tok], at: usize) -> Result<Taken<Many<Param>>
 {
     let first = param(alloc, t, at)?;
     let rest = more_params(alloc, t, first.end)?;
-    let list = Many {
-        first: Box::new(alloc, first.item)?,
-        rest: rest.item,
-    };
     Ok(Taken {
-        item: list,
+        item: many_of(alloc, first.item, rest.item)?,
         end: rest.end,
     })
 }
@@ -202,14 +188,8 @@ fn some_params(alloc: Global, t: &[Tok], at: usize) -> Result<Taken<Option<Many<
         (optional (separated COMMA param) (drop at t.now))) }
 {
     match attempt(many_params(alloc, t, at))? {
-        Some(found) => Ok(Taken {
-            item: Some(found.item),
-            end: found.end,
-        }),
-        None => Ok(Taken {
-            item: None,
-            end: at,
-        }),
+        Some(found) => Ok(found.there()),
+        None => Ok(Taken::left_out(at)),
     }
 }
 

@@ -32,14 +32,8 @@ fn some_star(alloc: Global, t: &[Tok], at: usize) -> Result<Taken<Option<(Tok, T
     ensures { IfOk result (IsTaken (λ star. star) t.now at (optional on_demand (drop at t.now))) }
 {
     match attempt(on_demand(alloc, t, at))? {
-        Some(star) => Ok(Taken {
-            item: Some(star.item),
-            end: star.end,
-        }),
-        None => Ok(Taken {
-            item: None,
-            end: at,
-        }),
+        Some(star) => Ok(star.there()),
+        None => Ok(Taken::left_out(at)),
     }
 }
 
@@ -109,13 +103,7 @@ pub(crate) fn some_package(
         (optional package_clause (drop at t.now))) }
 {
     match attempt(package_clause(alloc, t, at))? {
-        Some(clause) => Ok(Taken {
-            item: Some(clause.item),
-            end: clause.end,
-        }),
-        None => Ok(Taken {
-            item: None,
-            end: at,
-        }),
+        Some(clause) => Ok(clause.there()),
+        None => Ok(Taken::left_out(at)),
     }
 }

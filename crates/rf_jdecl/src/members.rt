@@ -1,11 +1,9 @@
-ghost use Rattle.std.specs.Prelude.{◌≤◌, ◌<◌, drop, length, map, IfOk};
+ghost use Rattle.std.specs.Prelude.{◌≤◌, ◌<◌, drop, length, IfOk};
 ghost use Rattle.rf_jtree.specs.DeclShown.{member_shown, members_shown};
 ghost use Rattle.rf_jtree.specs.DeclTrees.{member_depth};
 ghost use Rattle.rf_jtree.specs.NameShown.{mods_shown};
 ghost use Rattle.rf_jtree.specs.NameTrees.{list_depth};
-ghost use Rattle.rf_jtree.specs.declared.keyword_names.TheConstants.{STATIC};
-ghost use Rattle.rf_jexpr.specs.Gives.{GivesTree, IsFound, IsTaken};
-ghost use Rattle.rf_jexpr.specs.Reads.{is_key, token, optional};
+ghost use Rattle.rf_jexpr.specs.Gives.{GivesTree, IsFound};
 ghost use Rattle.rf_jdecl.specs.MemberReads.{stray, initializer, typed, behind_mods, modified, member, members};
 
 use crate::ctors::ctor;
@@ -13,7 +11,7 @@ use crate::fields::field;
 use crate::fronts::{begins_callable, begins_initializer};
 use crate::heads::fitting_mods;
 use crate::methods::{method, void_method};
-use rf_jexpr::{Found, ParseErr, Taken, Want, attempt, grown, is_at, take, type_use};
+use rf_jexpr::{Found, ParseErr, Want, attempt, grown, is_at, take, take_if, type_use};
 use rf_jstmt::body;
 use rf_jtree::keyword_names::{STATIC, VOID};
 use rf_jtree::operator_names::SEMICOLON;
@@ -34,25 +32,6 @@ fn stray(alloc: Global, t: &[Tok], at: usize, room: u32) -> Result<Found<Member>
     })
 }
 
-/// `static`, if it stands there.
-#[tactic(auto, unfolding(rf_jexpr::specs::Reads::optional, rf_jexpr::specs::Reads::and_then, rf_jexpr::specs::Reads::or_else))]
-fn some_static(alloc: Global, t: &[Tok], at: usize) -> Result<Taken<Option<Tok>>, Memory>
-    requires { at ≤ length t.now }
-    ensures { IfOk result (IsTaken (λ word. word) t.now at
-        (optional (token (is_key STATIC)) (drop at t.now))) }
-{
-    match attempt(take(alloc, t, at, Want::Key(STATIC)))? {
-        Some(word) => Ok(Taken {
-            item: Some(word.item),
-            end: word.end,
-        }),
-        None => Ok(Taken {
-            item: None,
-            end: at,
-        }),
-    }
-}
-
 /// An initializer, with `static` or without (JLS 8.6, 8.7).
 #[tactic(auto, unfolding(crate::specs::MemberReads::initializer, rf_jexpr::specs::Reads::and_then))]
 fn initializer(alloc: Global, t: &[Tok], at: usize, room: u32) -> Result<Found<Member>, ParseErr>
@@ -60,7 +39,7 @@ fn initializer(alloc: Global, t: &[Tok], at: usize, room: u32) -> Result<Found<M
     ensures { GivesTree member_shown member_depth room t.now at result
         (initializer room (drop at t.now)) }
 {
-    let word = some_static(alloc, t, at)?;
+    let word = take_if(alloc, t, at, Want::Key(STATIC))?;
     let block = body(alloc, t, word.end, room)?;
     let tree = Member::Init {
         word: word.item,

@@ -1,5 +1,5 @@
 -- What the code gives is the longest tree, and none exactly where there is none.
-use Rattle.std.proofs.Common.{◌≡◌, ℕ, ◌≤◌, List, Result, Ok, Err, drop, length, refl, arith}
+use Rattle.std.proofs.Common.{◌≡◌, ℕ, ◌≤◌, List, Result, Ok, Err, drop, length, arith}
 use Rattle.rf_jtree.specs.declared.exprs.Expr.{Expr}
 use Rattle.rf_jtree.specs.declared.tokens.Tok.{Tok}
 use Rattle.rf_jtree.specs.ExprFits.{ExprFits, InitFits, ArgsFit}
@@ -21,7 +21,7 @@ use Rattle.rf_jexpr.proofs.CompleteNames.{name-far, type_use-far}
 use Rattle.rf_jexpr.proofs.CompleteParts.{args-exact}
 use Rattle.rf_jexpr.proofs.CompleteRooms.{parsers-complete}
 use Rattle.rf_jexpr.proofs.Final.{good_in}
-use Rattle.rf_jexpr.proofs.LongestLemmas.{IsShallow, ReadsLongest, is_longest, none_stands}
+use Rattle.rf_jexpr.proofs.LongestLemmas.{ReadsLongest, is_longest, none_stands}
 use Rattle.rf_jexpr.proofs.Sound.{parsers-sound}
 use Rattle.rf_jexpr.proofs.SoundNames.{name-sound, type_use-sound}
 use Rattle.rf_jexpr.proofs.SoundParts.{args-sound}

@@ -7,7 +7,7 @@ use Rattle.rf_jtree.specs.ExprTrees.{On, Name}
 use Rattle.rf_jtree.specs.Kinds.{IsOp, IsIdent}
 use Rattle.rf_jtree.specs.NameFits.{EachFits, NameFits}
 use Rattle.rf_jtree.specs.NameTrees.{NameTree, name_yield}
-use Rattle.rf_jexpr.specs.PrimaryReads.{front, last, called_on, called_id}
+use Rattle.rf_jmake.specs.Called.{front, last, called_on, called_id}
 
 -- a name, and one of the identifier alone
 unfoldable pub with_member : NameTree → Tok → Tok → NameTree

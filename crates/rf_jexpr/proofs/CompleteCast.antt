@@ -12,7 +12,7 @@ use Rattle.rf_jtree.specs.ExprTrees.{NoOn, On, expr_yield, args_yield}
 use Rattle.rf_jtree.specs.Kinds.{IsOp, IsKey, IsIdent, AreParens, is_op_of, has_op, is_literal}
 use Rattle.rf_jtree.specs.Levels.{BindsAt}
 use Rattle.rf_jtree.specs.NameFits.{NameFits}
-use Rattle.rf_jtree.specs.NameTrees.{NameTree, name_yield, Prim}
+use Rattle.rf_jtree.specs.NameTrees.{NameTree, name_yield}
 use Rattle.rf_jexpr.specs.Descent.{is_primitive, casts, cast}
 use Rattle.rf_jexpr.specs.NameReads.{type_use}
 use Rattle.rf_jexpr.specs.PartReads.{Parsers}

@@ -13,10 +13,11 @@ use Rattle.rf_jtree.specs.ExprTrees.{ExprTree, Lit, This, Paren, Name, Call, Sup
 use Rattle.rf_jtree.specs.ExprTrees.{expr_yield, args_yield, sizes_yield, braces_yield, on_depth, sizes_depth}
 use Rattle.rf_jtree.specs.Kinds.{IsOp, IsKey, IsIdent, AreParens, is_literal}
 use Rattle.rf_jtree.specs.NameFits.{EachFits, NameFits, BaseFits, DimsFit, BracketsFit}
-use Rattle.rf_jtree.specs.NameTrees.{NameTree, TypeBaseTree, Prim, Named, name_yield, base_yield, dims_yield, pair_yield}
+use Rattle.rf_jtree.specs.NameTrees.{NameTree, TypeBaseTree, Named, name_yield, base_yield, dims_yield, pair_yield}
 use Rattle.rf_jexpr.specs.NameReads.{dims}
 use Rattle.rf_jexpr.specs.PartReads.{Parsers, paren, args, sized}
-use Rattle.rf_jexpr.specs.PrimaryReads.{literal, this_word, super_member, new_class, has_brackets, new_filled, new_array, creation, called_on, called_id, named_call, named, first_part}
+use Rattle.rf_jmake.specs.Called.{called_on, called_id}
+use Rattle.rf_jexpr.specs.PrimaryReads.{literal, this_word, super_member, new_class, has_brackets, new_filled, new_array, creation, named_call, named, first_part}
 use Rattle.rf_jexpr.specs.Reads.{and_then, when, ◌>>=◌, is_op, is_key, is_ident, begins, optional, many}
 use Rattle.rf_jexpr.proofs.Bounded.{args-bounded, sized-bounded}
 use Rattle.rf_jexpr.proofs.CallNames.{with_member, alone, alone-fits, member-fits, called_on-member, called_id-member}

@@ -12,7 +12,8 @@ use Rattle.rf_jtree.specs.ExprTrees.{expr_yield, args_yield, exprs_yield, sizes_
 use Rattle.rf_jtree.specs.Kinds.{IsOp, AreBrackets, AreParens, has_op}
 use Rattle.rf_jtree.specs.NameFits.{EachFits, ManyFit}
 use Rattle.rf_jtree.specs.NameTrees.{ManyTree, many_yield, option_yield}
-use Rattle.rf_jexpr.specs.PartReads.{Parsers, paren, exprs_of, args, sized, inits_of, braces}
+use Rattle.rf_jmake.specs.ExprMade.{exprs_of, inits_of}
+use Rattle.rf_jexpr.specs.PartReads.{Parsers, paren, args, sized, braces}
 use Rattle.rf_jexpr.specs.Reads.{Reads, and_then, is_op, begins, optional, behind, separated}
 use Rattle.rf_jexpr.specs.Stops.{stops, Stops}
 use Rattle.rf_jexpr.proofs.Bounded.{AreBounded}

@@ -1,10 +1,8 @@
 -- What the readers of expressions answer, in the words of trees: no tokens have two trees.
-use Rattle.std.proofs.Common.{◌≡◌, ℕ, ◌≤◌, max, List, [], ◌++◌, Some, None, Ok, IsTrue, drop, length, length-drop, refl, ap, ◌∙◌, sym, arith}
-use Rattle.rf_jtree.specs.declared.exprs.Expr.{Expr}
+use Rattle.std.proofs.Common.{◌≡◌, ℕ, ◌≤◌, max, List, [], ◌++◌, IsTrue, refl, ap, ◌∙◌, sym, arith}
 use Rattle.rf_jtree.specs.declared.tokens.Tok.{Tok}
 use Rattle.rf_jtree.specs.declared.levels.TheConstants.{ASSIGNMENT_LEVEL}
 use Rattle.rf_jtree.specs.ExprFits.{ExprFits}
-use Rattle.rf_jtree.specs.ExprShown.{expr_shown}
 use Rattle.rf_jtree.specs.ExprTrees.{ExprTree, expr_yield, expr_depth}
 use Rattle.rf_jfit.proofs.ExprFirstLemmas.{expr_begins}
 use Rattle.rf_jexpr.specs.Descent.{parsers}
@@ -12,7 +10,6 @@ use Rattle.rf_jexpr.specs.Reads.{begins}
 use Rattle.rf_jexpr.specs.Stops.{begins_expr}
 use Rattle.rf_jexpr.proofs.CompleteRooms.{parsers-complete}
 use Rattle.rf_jexpr.proofs.First.{expr_first-begins}
-use Rattle.rf_jexpr.proofs.Sound.{parsers-sound}
 use Rattle.rf_jexpr.proofs.SoundParts.{Good}
 use Rattle.rf_jexpr.proofs.StopLemmas.{stops_end}
 use Rattle.rf_jexpr.proofs.Tools.{by_some}

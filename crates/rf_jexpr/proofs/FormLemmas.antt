@@ -1,61 +1,27 @@
--- Tests of expressions, and what lists of parts show as and how deep they are.
-use Rattle.std.proofs.Common.{◌≡◌, max, List, [], ◌∷◌, Option, Some, None, map, Bool, true, false, IsTrue, ◌↔◌, refl, ap, sym}
-use Rattle.std.specs.declared.alloc.Global.{Global}
-use Rattle.std.specs.declared.boxed.Box.{Box}
-use Rattle.rf_jtree.specs.declared.exprs.Args.{Args}
-use Rattle.rf_jtree.specs.declared.exprs.Expr.{Expr}
-use Rattle.rf_jtree.specs.declared.exprs.Init.{Init}
-use Rattle.rf_jtree.specs.declared.names.Many.{Many}
+-- Tests of expressions, and how deep lists of parts are.
+use Rattle.std.proofs.Common.{◌≡◌, max, List, [], ◌∷◌, Bool, true, false, IsTrue, ◌↔◌, refl, ap, sym}
 use Rattle.rf_jtree.specs.declared.tokens.Tok.{Tok}
 use Rattle.rf_jtree.specs.ExprFits.{IsLeftSide, IsNoName, IsNoNewArray}
-use Rattle.rf_jtree.specs.ExprShown.{expr_shown, init_shown, more_exprs_tree, more_exprs_shown, exprs_shown, more_inits_tree, more_inits_shown, inits_shown, sizes_tree, sizes_shown, super_args_tree, super_args_shown}
+use Rattle.rf_jtree.specs.ExprShown.{more_exprs_tree, more_inits_tree, sizes_tree}
 use Rattle.rf_jtree.specs.ExprTrees.{ExprTree, Name, Field, Super, NoArgs, Index, NewArray, InitTree, more_exprs_depth, more_inits_depth, sizes_depth}
-use Rattle.rf_jtree.specs.ExprTrees as t
 use Rattle.rf_jtree.specs.NameTrees.{list_depth}
 use Rattle.rf_jexpr.specs.Descent.{is_left_side}
-use Rattle.rf_jexpr.specs.Made.{item_shown, item_depth, init_item_shown, init_item_depth, size_shown, size_depth, exprs_found, inits_found, super_args_found}
-use Rattle.rf_jexpr.specs.PartReads.{exprs_of, inits_of}
+use Rattle.rf_jexpr.specs.Made.{item_depth, init_item_depth, size_depth}
 use Rattle.rf_jexpr.specs.PrimaryReads.{is_no_name, is_no_new_array}
 
 -- ---- lists of parts
-
-more_exprs-shown : (rest : List (Tok × Expr)) → more_exprs_tree (map item_shown rest) ≡ more_exprs_shown rest
-more_exprs-shown [] = refl
-more_exprs-shown (item ∷ rest) = ap (t.MoreExprs item.0 (expr_shown item.1)) (more_exprs-shown rest)
-
-pub exprs-shown : (list : Option (Many Expr)) → exprs_of (exprs_found list) ≡ exprs_shown list
-unfolding exprs_of
-exprs-shown None = refl
-exprs-shown (Some list) = ap (t.Exprs (expr_shown list.first.value)) (more_exprs-shown list.rest)
 
 pub more_exprs-depth : (rest : List (Tok × ExprTree)) → more_exprs_depth (more_exprs_tree rest) ≡ list_depth item_depth rest
 more_exprs-depth [] = refl
 more_exprs-depth (item ∷ rest) = ap (max (item_depth item)) (more_exprs-depth rest)
 
-more_inits-shown : (rest : List (Tok × Init)) → more_inits_tree (map init_item_shown rest) ≡ more_inits_shown rest
-more_inits-shown [] = refl
-more_inits-shown (item ∷ rest) = ap (t.MoreInits item.0 (init_shown item.1)) (more_inits-shown rest)
-
-pub inits-shown : (list : Option (Many Init)) → inits_of (inits_found list) ≡ inits_shown list
-unfolding inits_of
-inits-shown None = refl
-inits-shown (Some list) = ap (t.Inits (init_shown list.first.value)) (more_inits-shown list.rest)
-
 pub more_inits-depth : (rest : List (Tok × InitTree)) → more_inits_depth (more_inits_tree rest) ≡ list_depth init_item_depth rest
 more_inits-depth [] = refl
 more_inits-depth (item ∷ rest) = ap (max (init_item_depth item)) (more_inits-depth rest)
 
-pub sizes-shown : (sizes : List (Tok × Expr × Tok)) → sizes_tree (map size_shown sizes) ≡ sizes_shown sizes
-sizes-shown [] = refl
-sizes-shown (size ∷ rest) = ap (t.Sizes size.0 (expr_shown size.1) size.2) (sizes-shown rest)
-
 pub sizes-depth : (sizes : List (Tok × ExprTree × Tok)) → sizes_depth (sizes_tree sizes) ≡ list_depth size_depth sizes
 sizes-depth [] = refl
 sizes-depth (size ∷ rest) = ap (max (size_depth size)) (sizes-depth rest)
-
-pub super_args-shown : (list : Option (Box Args Global)) → super_args_tree (super_args_found list) ≡ super_args_shown list
-super_args-shown None = refl
-super_args-shown (Some list) = refl
 
 -- ---- tests
 

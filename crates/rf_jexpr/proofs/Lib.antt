@@ -1,5 +1,4 @@
 mod AnswerLemmas
-mod CalledLemmas
 mod CreationLemmas
 pub mod CursorLemmas
 mod FormLemmas

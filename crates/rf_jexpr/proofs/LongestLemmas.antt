@@ -1,5 +1,5 @@
 -- A reader that reads only trees that fit, and leaves no more than any such tree does, reads the longest one.
-use Rattle.std.proofs.Common.{◌≡◌, ℕ, ◌≤◌, List, ◌++◌, Option, Some, None, Ok, Err, drop, length, length-drop, arith}
+use Rattle.std.proofs.Common.{◌≡◌, ℕ, ◌≤◌, List, ◌++◌, Some, None, Ok, drop, length, length-drop, arith}
 use Rattle.rf_jtree.specs.declared.tokens.Tok.{Tok}
 use Rattle.rf_jexpr.specs.Longest.{IsTreeAt, NoneIsLonger, NoneStands, IsLongestOf}
 use Rattle.rf_jexpr.specs.Reads.{Reads}

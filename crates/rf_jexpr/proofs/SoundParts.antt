@@ -11,7 +11,8 @@ use Rattle.rf_jtree.specs.Kinds.{IsOp, AreBrackets}
 use Rattle.rf_jtree.specs.Levels.{BindsAt}
 use Rattle.rf_jtree.specs.NameFits.{EachFits, ManyFit}
 use Rattle.rf_jtree.specs.NameTrees.{ManyTree, many_yield, option_yield, tok_yield}
-use Rattle.rf_jexpr.specs.PartReads.{Parsers, paren, exprs_of, args, sized, inits_of, braces}
+use Rattle.rf_jmake.specs.ExprMade.{exprs_of, inits_of}
+use Rattle.rf_jexpr.specs.PartReads.{Parsers, paren, args, sized, braces}
 use Rattle.rf_jexpr.specs.Reads.{is_op, token, optional, separated}
 use Rattle.rf_jexpr.proofs.LoopLemmas.{Read, IsSound, separated-sound}
 use Rattle.rf_jexpr.proofs.SoundNames.{token-sound, optional-sound}

@@ -14,7 +14,8 @@ use Rattle.rf_jtree.specs.NameFits.{NameFits, EachFits, BaseFits}
 use Rattle.rf_jtree.specs.NameTrees.{NameTree, TypeBaseTree, Prim, Named, tok_yield, option_yield, name_yield, base_yield, dims_yield}
 use Rattle.rf_jexpr.specs.NameReads.{name, dims, type_base}
 use Rattle.rf_jexpr.specs.PartReads.{Parsers, args, sized, braces}
-use Rattle.rf_jexpr.specs.PrimaryReads.{literal, this_word, super_member, new_class, has_brackets, new_filled, new_array, creation, front, last, called_on, called_id, named_call, named, first_part, member_call, is_no_name, field, member, is_no_new_array, item, suffix, primary}
+use Rattle.rf_jmake.specs.Called.{front, last, called_on, called_id}
+use Rattle.rf_jexpr.specs.PrimaryReads.{literal, this_word, super_member, new_class, has_brackets, new_filled, new_array, creation, named_call, named, first_part, member_call, is_no_name, field, member, is_no_new_array, item, suffix, primary}
 use Rattle.rf_jexpr.specs.Reads.{when, is_op, is_key, is_ident, begins, token, optional, many}
 use Rattle.rf_jexpr.proofs.LoopLemmas.{Read, IsSound, many-sound, chain-keeps}
 use Rattle.rf_jexpr.proofs.SoundNames.{token-sound, made-sound, optional-sound, name-sound, dims-sound, type_base-sound}

@@ -34,6 +34,15 @@ IsAttempt tried (Ok (Some x)) = tried ≡ Ok x
 IsAttempt tried (Ok None) = tried ≡ Err NoTree
 IsAttempt tried (Err want) = tried ≡ Err Memory
 
+-- the same result, as a pair with what stands before it
+abbrev pub IsPair : {A B : Type 0} → A → Result (Taken B) ParseErr → Result (Taken (A × B)) ParseErr → Type 0
+IsPair first next (Ok x) = (next ≡ Ok (record { item = x.item.1; end = x.end })) × (x.item.0 ≡ first)
+IsPair first next (Err none) = next ≡ Err none
+
+abbrev pub IsPairFound : {A B : Type 0} → A → Result (Found B) ParseErr → Result (Found (A × B)) ParseErr → Type 0
+IsPairFound first next (Ok x) = (next ≡ Ok (record { tree = x.tree.1; end = x.end; depth = x.depth })) × (x.tree.0 ≡ first)
+IsPairFound first next (Err none) = next ≡ Err none
+
 -- It was read, and shows as what the reader reads.
 abbrev pub IsTaken : {A B : Type 0} → (A → B) → List Tok → ℕ → Option (B × List Tok) → Taken A → Type 0
 IsTaken shown toks at read x = (read ≡ Some (shown x.item, drop x.end toks)) × (at ≤ x.end) × (x.end ≤ length toks)

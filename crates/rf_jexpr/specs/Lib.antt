@@ -7,4 +7,3 @@ pub mod PartReads
 pub mod PrimaryReads
 pub mod Reads
 pub mod Stops
-pub mod Tails

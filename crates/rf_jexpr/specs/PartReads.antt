@@ -1,11 +1,10 @@
 -- The readers of expressions by the levels at which they bind, all of one room, and with them those of the parts of an
 -- expression that stand in brackets of their own.
-use Rattle.std.specs.Prelude.{ℕ, Option, Some, None}
+use Rattle.std.specs.Prelude.{ℕ, Some}
 use Rattle.rf_jtree.specs.declared.tokens.Tok.{Tok}
 use Rattle.rf_jtree.specs.declared.operator_names.TheConstants.{LEFT_PAREN, RIGHT_PAREN, LEFT_BRACE, RIGHT_BRACE, LEFT_BRACKET, RIGHT_BRACKET, COMMA}
-use Rattle.rf_jtree.specs.ExprShown.{more_exprs_tree, more_inits_tree}
-use Rattle.rf_jtree.specs.ExprTrees.{ExprTree, Paren, ArgsTree, Args, ExprsTree, NoExprs, Exprs, InitTree, BracesTree, Braces, InitsTree, NoInits, Inits}
-use Rattle.rf_jtree.specs.NameTrees.{ManyTree}
+use Rattle.rf_jtree.specs.ExprTrees.{ExprTree, Paren, ArgsTree, Args, InitTree, BracesTree, Braces}
+use Rattle.rf_jmake.specs.ExprMade.{exprs_of, inits_of}
 use Rattle.rf_jexpr.specs.Reads.{Reads, ◌>>=◌, is_op, token, optional, separated}
 
 -- For one room, the longest expression that is no deeper than it: any one; one that is no assignment; one that binds at
@@ -28,10 +27,6 @@ paren p toks = do
   Some (Paren left.0 value.0 right.0, right.1)
 
 -- arguments in parentheses (JLS 15.12)
-unfoldable pub exprs_of : Option (ManyTree ExprTree) → ExprsTree
-exprs_of None = NoExprs
-exprs_of (Some exprs) = Exprs exprs.first (more_exprs_tree exprs.rest)
-
 unfoldable pub args : Parsers → Reads ArgsTree
 args p toks = do
   left ← token (is_op LEFT_PAREN) toks
@@ -48,10 +43,6 @@ sized p toks = do
   Some ((left.0, value.0, right.0), right.1)
 
 -- items in braces, with a comma behind the last one or without (JLS 10.6)
-unfoldable pub inits_of : Option (ManyTree InitTree) → InitsTree
-inits_of None = NoInits
-inits_of (Some inits) = Inits inits.first (more_inits_tree inits.rest)
-
 unfoldable pub braces : Parsers → Reads BracesTree
 braces p toks = do
   left ← token (is_op LEFT_BRACE) toks

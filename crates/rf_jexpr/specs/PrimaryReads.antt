@@ -5,9 +5,10 @@ use Rattle.rf_jtree.specs.declared.tokens.Tok.{Tok}
 use Rattle.rf_jtree.specs.declared.operator_names.TheConstants.{LEFT_PAREN, DOT}
 use Rattle.rf_jtree.specs.declared.keyword_names.TheConstants.{NEW, SUPER, THIS}
 use Rattle.rf_jtree.specs.ExprShown.{sizes_tree, super_args_tree}
-use Rattle.rf_jtree.specs.ExprTrees.{ExprTree, Lit, This, Name, Call, Field, Super, New, Index, NewArray, NewInit, OnTree, NoOn, On, expr_depth, on_depth}
+use Rattle.rf_jtree.specs.ExprTrees.{ExprTree, Lit, This, Name, Call, Field, Super, New, Index, NewArray, NewInit, On, expr_depth, on_depth}
 use Rattle.rf_jtree.specs.Kinds.{is_literal}
 use Rattle.rf_jtree.specs.NameTrees.{NameTree, TypeBaseTree, Prim, Named}
+use Rattle.rf_jmake.specs.Called.{called_on, called_id}
 use Rattle.rf_jexpr.specs.NameReads.{name, dims, type_base}
 use Rattle.rf_jexpr.specs.PartReads.{Parsers, paren, args, sized, braces}
 use Rattle.rf_jexpr.specs.Reads.{Reads, ◌>>=◌, or_else, when, is_op, is_key, is_ident, begins, token, optional, many, chain}
@@ -57,23 +58,6 @@ creation p toks = do
   base ← type_base word.1
   if begins (is_op LEFT_PAREN) base.1 then new_class p word.0 base.0 base.1
       else (many (sized p) base.1 >>= λ sizes. new_array p word.0 base.0 sizes.0 sizes.1)
-
--- The identifiers of a name but the last one are what a method is called on; the last one is the method.
-unfoldable pub front : {A : Type 0} → A → List A → List A
-front item [] = []
-front item (next ∷ rest) = item ∷ front next rest
-
-unfoldable pub last : {A : Type 0} → A → List A → A
-last item [] = item
-last item (next ∷ rest) = last next rest
-
-unfoldable pub called_on : Tok → List (Tok × Tok) → OnTree
-called_on first [] = NoOn
-called_on first (item ∷ rest) = On (Name (record { ids = record { first = first; rest = front item rest } })) (last item rest).0
-
-unfoldable pub called_id : Tok → List (Tok × Tok) → Tok
-called_id first [] = first
-called_id first (item ∷ rest) = (last item rest).1
 
 -- In what follows `p` has the room `m`, and so the expression that is read has one more.
 

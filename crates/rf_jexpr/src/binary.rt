@@ -4,18 +4,21 @@ ghost use Rattle.rf_jtree.specs.ExprTrees.{expr_depth};
 ghost use Rattle.rf_jtree.specs.Levels.{binary_level};
 ghost use Rattle.rf_jexpr.specs.Descent.{parsers, takes_left, instance, operation, operator};
 ghost use Rattle.rf_jexpr.specs.Gives.{Gives, GivesTree};
-ghost use Rattle.rf_jexpr.specs.Made.{IsKnown, boxed_shown};
+ghost use Rattle.rf_jmake.specs.ExprMade.{boxed_shown};
+ghost use Rattle.rf_jexpr.specs.Made.{IsKnown};
 ghost use Rattle.rf_jexpr.specs.Reads.{token};
-ghost use Rattle.rf_jexpr.specs.Tails.{operated};
+ghost use Rattle.rf_jmake.specs.Tails.{operated};
 
 use crate::ParseErr;
-use crate::cursor::{Want, copy_tok, is_at, take, tok_at};
-use crate::found::{Found, Taken, attempt, deeper, put};
+use crate::cursor::{Want, is_at, take, tok_at};
+use crate::found::{Found, Taken, attempt, deeper};
 use crate::names::type_use;
-use crate::nodes::{Operation, Tail, operated};
+use crate::tails::operated;
 use crate::unary::unary;
 use rf_jfit::expr_level;
 use rf_jfit::levels::binary_level;
+use rf_jmake::put;
+use rf_jmake::tails::{Operation, Tail};
 use rf_jtree::keyword_names::INSTANCEOF;
 use rf_jtree::levels::COMPARISON_LEVEL;
 use rf_jtree::{Expr, Tok};
@@ -49,7 +52,7 @@ fn binary_op(
     if !takes_left(least, left, tok) {
         return Err(ParseErr::NoTree);
     }
-    let item = copy_tok(alloc, tok)?;
+    let item = tok.copy(alloc)?;
     Ok(Taken { item, end: at + 1 })
 }
 

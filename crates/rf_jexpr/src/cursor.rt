@@ -1,10 +1,10 @@
-ghost use Rattle.std.specs.Prelude.{◌≡◌, ◌+◌, ◌<◌, drop, length, slice_get, IfOk, OnSome};
+ghost use Rattle.std.specs.Prelude.{◌≡◌, ◌+◌, ◌≤◌, ◌<◌, drop, length, slice_get, IfOk, OnSome};
 ghost use Rattle.std.specs.Option.{option_copied};
-ghost use Rattle.rf_jexpr.specs.Gives.{Gives, passes};
-ghost use Rattle.rf_jexpr.specs.Reads.{begins, token};
+ghost use Rattle.rf_jexpr.specs.Gives.{Gives, IsTaken, passes};
+ghost use Rattle.rf_jexpr.specs.Reads.{begins, optional, token};
 
 use crate::ParseErr;
-use crate::found::Taken;
+use crate::found::{Taken, attempt};
 use rf_jfit::{is_ident, is_key, is_key_of, is_literal, is_op, is_op_of};
 use rf_jtree::keyword_names::PRIMITIVES;
 use rf_jtree::operator_names::{ASSIGNMENTS, PREFIXES, SUFFIXES};
@@ -47,19 +47,6 @@ pub(crate) fn passes(want: Want, tok: &Tok) -> bool
     }
 }
 
-/// The same token once more.
-pub(crate) fn copy_tok(alloc: Global, tok: &Tok) -> Result<Tok, Memory>
-    ensures { IfOk result (λ copied. copied ≡ tok.now) }
-{
-    let lead = tok.lead.copy(alloc)?;
-    let text = tok.text.copy(alloc)?;
-    Ok(Tok {
-        kind: tok.kind,
-        lead,
-        text,
-    })
-}
-
 /// The token at this place, where the tokens go on so far.
 pub fn tok_at(t: &[Tok], at: usize) -> Option<&Tok>
     ensures value { option_copied result ≡ slice_get t.now at }
@@ -91,6 +78,24 @@ pub fn take(alloc: Global, t: &[Tok], at: usize, want: Want) -> Result<Taken<Tok
     if !passes(want, tok) {
         return Err(ParseErr::NoTree);
     }
-    let item = copy_tok(alloc, tok)?;
+    let item = tok.copy(alloc)?;
     Ok(Taken { item, end: at + 1 })
+}
+
+/// The token at this place, if it is what is wanted: one that may be left out.
+#[tactic(auto, unfolding(crate::specs::Reads::optional, crate::specs::Reads::and_then, crate::specs::Reads::or_else))]
+pub fn take_if(
+    alloc: Global,
+    t: &[Tok],
+    at: usize,
+    want: Want,
+) -> Result<Taken<Option<Tok>>, Memory>
+    requires { at ≤ length t.now }
+    ensures { IfOk result (IsTaken (λ tok. tok) t.now at
+        (optional (token (passes want)) (drop at t.now))) }
+{
+    match attempt(take(alloc, t, at, want))? {
+        Some(tok) => Ok(tok.there()),
+        None => Ok(Taken::left_out(at)),
+    }
 }

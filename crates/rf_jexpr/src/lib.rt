@@ -4,22 +4,20 @@
 mod binary;
 mod creation;
 mod cursor;
-mod forms;
 mod found;
 mod laws;
 mod longest;
 mod names;
-mod nodes;
 mod parse_err;
 mod parts;
 mod primary;
 mod shapes;
+mod tails;
 mod top;
 mod unary;
 
-pub use cursor::{Want, is_at, take, tok_at};
-pub use forms::grown;
-pub use found::{Found, Taken, attempt, deeper};
+pub use cursor::{Want, is_at, take, take_if, tok_at};
+pub use found::{Found, Taken, attempt, deeper, grown, joined, many_of, pair, pair_found};
 pub use laws::{expressions_begin_with, expressions_have_one_tree};
 pub use longest::{args, boxed_expr, expr, init, name, new_expr, type_use};
 pub use names::dims;

@@ -8,7 +8,7 @@ ghost use Rattle.rf_jtree.specs.NameTrees.{name_yield, type_yield};
 ghost use Rattle.rf_jexpr.specs.Descent.{parsers, creations};
 ghost use Rattle.rf_jexpr.specs.Gives.{Gives, GivesTree};
 ghost use Rattle.rf_jexpr.specs.Longest.{IsLongest, IsLongestOf, CreationFits, not_deep, of_taken, of_found};
-ghost use Rattle.rf_jexpr.specs.Made.{boxed_shown, boxed_init_shown};
+ghost use Rattle.rf_jmake.specs.ExprMade.{boxed_shown, boxed_init_shown};
 ghost use Rattle.rf_jexpr.specs.NameReads.{name, type_use};
 ghost use Rattle.rf_jexpr.specs.PartReads.{args};
 

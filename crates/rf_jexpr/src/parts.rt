@@ -4,16 +4,17 @@ ghost use Rattle.rf_jtree.specs.ExprShown.{args_shown};
 ghost use Rattle.rf_jtree.specs.ExprTrees.{expr_depth, args_depth, braces_depth};
 ghost use Rattle.rf_jtree.specs.NameTrees.{list_depth};
 ghost use Rattle.rf_jexpr.specs.Descent.{parsers};
-ghost use Rattle.rf_jexpr.specs.Gives.{GivesTree, IsFound, IsTaken};
-ghost use Rattle.rf_jexpr.specs.Made.{boxed_shown, boxed_args_shown, boxed_braces_shown, bracketed_shown, item_shown, item_depth, init_item_shown, init_item_depth, size_shown, size_depth, exprs_found, found_depth, inits_found, inits_found_depth};
+ghost use Rattle.rf_jexpr.specs.Gives.{GivesTree, IsFound};
+ghost use Rattle.rf_jmake.specs.ExprMade.{boxed_shown, boxed_args_shown, boxed_braces_shown, item_shown, init_item_shown, size_shown, exprs_found, inits_found};
+ghost use Rattle.rf_jexpr.specs.Made.{bracketed_shown, item_depth, init_item_depth, size_depth, found_depth, inits_found_depth};
 ghost use Rattle.rf_jexpr.specs.PartReads.{paren, args, sized, braces};
-ghost use Rattle.rf_jexpr.specs.Reads.{is_op, token, many, behind, separated, optional};
+ghost use Rattle.rf_jexpr.specs.Reads.{is_op, many, behind, separated, optional};
 
 use crate::ParseErr;
-use crate::cursor::{Want, take};
-use crate::forms::{args_of, braces_of, grown, paren_of};
-use crate::found::{Found, Taken, attempt, deeper};
+use crate::cursor::{Want, take, take_if};
+use crate::found::{Found, attempt, deeper, grown};
 use crate::top::{expr, init};
+use rf_jmake::exprs::{args_of, braces_of, paren_of};
 use rf_jtree::operator_names::{
     COMMA, LEFT_BRACE, LEFT_BRACKET, LEFT_PAREN, RIGHT_BRACE, RIGHT_BRACKET, RIGHT_PAREN,
 };
@@ -99,11 +100,7 @@ pub fn exprs(
         (optional (separated COMMA (parsers room).expr) (drop at t.now))) }
 {
     let Some(first) = attempt(expr(alloc, t, at, room))? else {
-        return Ok(Found {
-            tree: None,
-            end: at,
-            depth: 0,
-        });
+        return Ok(Found::left_out(at));
     };
     let rest = more_exprs(alloc, t, first.end, room)?;
     Ok(Found {
@@ -277,11 +274,7 @@ fn inits(
         (optional (separated COMMA (parsers room).init) (drop at t.now))) }
 {
     let Some(first) = attempt(init(alloc, t, at, room))? else {
-        return Ok(Found {
-            tree: None,
-            end: at,
-            depth: 0,
-        });
+        return Ok(Found::left_out(at));
     };
     let rest = more_inits(alloc, t, first.end, room)?;
     Ok(Found {
@@ -292,25 +285,6 @@ fn inits(
         end: rest.end,
         depth: deeper(first.depth, rest.depth),
     })
-}
-
-/// A comma, if one stands there.
-#[tactic(auto, unfolding(crate::specs::Reads::optional, crate::specs::Reads::and_then, crate::specs::Reads::or_else))]
-fn comma(alloc: Global, t: &[Tok], at: usize) -> Result<Taken<Option<Tok>>, Memory>
-    requires { at ≤ length t.now }
-    ensures { IfOk result (IsTaken (λ comma. comma) t.now at
-        (optional (token (is_op COMMA)) (drop at t.now))) }
-{
-    match attempt(take(alloc, t, at, Want::Op(COMMA)))? {
-        Some(comma) => Ok(Taken {
-            item: Some(comma.item),
-            end: comma.end,
-        }),
-        None => Ok(Taken {
-            item: None,
-            end: at,
-        }),
-    }
 }
 
 /// Items in braces, with a comma behind the last one or without (JLS 10.6).
@@ -327,7 +301,7 @@ pub(crate) fn braces(
 {
     let left = take(alloc, t, at, Want::Op(LEFT_BRACE))?;
     let items = inits(alloc, t, left.end, room)?;
-    let comma = comma(alloc, t, items.end)?;
+    let comma = take_if(alloc, t, items.end, Want::Op(COMMA))?;
     let right = take(alloc, t, comma.end, Want::Op(RIGHT_BRACE))?;
     let tree = braces_of(alloc, left.item, items.tree, comma.item, right.item)?;
     Ok(Found {

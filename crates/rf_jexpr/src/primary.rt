@@ -3,21 +3,23 @@ ghost use Rattle.rf_jtree.specs.ExprTrees.{expr_depth};
 ghost use Rattle.rf_jtree.specs.NameShown.{name_shown};
 ghost use Rattle.rf_jexpr.specs.Descent.{parsers};
 ghost use Rattle.rf_jexpr.specs.Gives.{GivesTree, IsFound};
-ghost use Rattle.rf_jexpr.specs.Made.{IsKnown, boxed_shown, super_args_found, super_args_found_depth};
+ghost use Rattle.rf_jmake.specs.ExprMade.{boxed_shown, super_args_found};
+ghost use Rattle.rf_jexpr.specs.Made.{IsKnown, super_args_found_depth};
 ghost use Rattle.rf_jexpr.specs.PartReads.{args};
 ghost use Rattle.rf_jexpr.specs.PrimaryReads.{literal, this_word, super_member, named_call, named, first_part, member, field, item, suffix, primary};
 ghost use Rattle.rf_jexpr.specs.Reads.{optional};
-ghost use Rattle.rf_jexpr.specs.Tails.{named_called, suffixed};
+ghost use Rattle.rf_jmake.specs.Tails.{named_called, suffixed};
 
 use crate::ParseErr;
 use crate::creation::creation;
 use crate::cursor::{Want, is_at, take};
-use crate::forms::{literal_of, name_of, super_of, this_of};
 use crate::found::{Found, Taken, attempt, deeper};
 use crate::names::name;
-use crate::nodes::{Suffix, depth_called_on, named_called, suffixed};
 use crate::parts::{args, bracketed, paren};
 use crate::shapes::{takes_field, takes_index};
+use crate::tails::suffixed;
+use rf_jmake::exprs::{literal_of, name_of, super_of, this_of};
+use rf_jmake::tails::{Suffix, depth_called_on, named_called};
 use rf_jtree::keyword_names::{NEW, SUPER, THIS};
 use rf_jtree::operator_names::{DOT, LEFT_PAREN};
 use rf_jtree::{Args, Expr, Name, Tok};
@@ -66,16 +68,8 @@ fn super_args(
         (optional (args (parsers room)) (drop at t.now))) }
 {
     match attempt(args(alloc, t, at, room))? {
-        Some(list) => Ok(Found {
-            tree: Some(list.tree),
-            end: list.end,
-            depth: list.depth,
-        }),
-        None => Ok(Found {
-            tree: None,
-            end: at,
-            depth: 0,
-        }),
+        Some(list) => Ok(list.there()),
+        None => Ok(Found::left_out(at)),
     }
 }
 

@@ -1,6 +1,6 @@
 ghost use Rattle.std.specs.Prelude.{◌≡◌};
 ghost use Rattle.rf_jexpr.specs.Descent.{is_left_side};
-ghost use Rattle.rf_jexpr.specs.Made.{boxed_shown};
+ghost use Rattle.rf_jmake.specs.ExprMade.{boxed_shown};
 ghost use Rattle.rf_jexpr.specs.PrimaryReads.{is_no_name, is_no_new_array};
 
 use rf_jfit::{is_left_side, is_no_name, is_no_new_array};

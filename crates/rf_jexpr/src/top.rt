@@ -1,18 +1,19 @@
-ghost use Rattle.std.specs.Prelude.{◌≡◌, ◌≤◌, ◌<◌, ◌+◌, drop, IfOk};
+ghost use Rattle.std.specs.Prelude.{◌≡◌, ◌≤◌, ◌<◌, ◌+◌, drop};
 ghost use Rattle.rf_jtree.specs.ExprTrees.{expr_depth, init_depth};
 ghost use Rattle.rf_jexpr.specs.Descent.{parsers, choice, assignment};
 ghost use Rattle.rf_jexpr.specs.Gives.{GivesTree, GivesExpr};
-ghost use Rattle.rf_jexpr.specs.Made.{IsKnown, boxed_shown, boxed_init_shown};
-ghost use Rattle.rf_jexpr.specs.Tails.{assigned, chosen};
+ghost use Rattle.rf_jmake.specs.ExprMade.{boxed_shown, boxed_init_shown};
+ghost use Rattle.rf_jexpr.specs.Made.{IsKnown};
+ghost use Rattle.rf_jmake.specs.Tails.{assigned, chosen};
 
 use crate::ParseErr;
 use crate::binary::binary;
 use crate::cursor::{Want, is_at, take};
-use crate::forms::{braced_of, value_of};
 use crate::found::{Found, attempt, deeper};
-use crate::nodes::{Choice, Operation, assigned, chosen};
 use crate::parts::braces;
 use crate::shapes::is_assignable;
+use rf_jmake::exprs::{braced_of, value_of};
+use rf_jmake::tails::{Choice, Operation, assigned, chosen};
 use rf_jtree::levels::OR_OR_LEVEL;
 use rf_jtree::operator_names::{COLON, LEFT_BRACE, QUESTION};
 use rf_jtree::{Expr, Init, Tok};

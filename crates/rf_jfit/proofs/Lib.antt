@@ -1,1 +1,2 @@
 pub mod ExprFirstLemmas
+pub mod EachLemmas

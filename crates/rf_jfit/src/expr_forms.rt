@@ -1,10 +1,8 @@
 ghost use Rattle.std.specs.Prelude.{◌≡◌, ◌↔◌, IsTrue};
 ghost use Rattle.rf_jfit.specs.ExprFirst.{expr_first};
-ghost use Rattle.rf_jtree.specs.ExprFits.{IsLeftSide, begins_operand, CastTakes, IsNoName, IsNoNewArray, HasBrackets};
-ghost use Rattle.rf_jtree.specs.ExprTrees.{expr_yield};
+ghost use Rattle.rf_jtree.specs.ExprFits.{IsLeftSide, begins_operand, IsNoName, IsNoNewArray};
 ghost use Rattle.rf_jtree.specs.ExprShown.{expr_shown};
 ghost use Rattle.rf_jtree.specs.Levels.{expr_level, BindsAt};
-ghost use Rattle.rf_jtree.specs.NameShown.{type_shown};
 
 use crate::kinds::{has_key, has_op};
 use crate::levels::binary_level;

@@ -11,7 +11,7 @@ use Rattle.rf_jstmt.specs.StmtReads.{block_alone, stmt_parsers, whole_block}
 use Rattle.rf_jstmt.proofs.Exact.{whole_block-exact}
 use Rattle.rf_jstmt.proofs.SoundParts.{block-sound}
 use Rattle.rf_jstmt.proofs.SoundStmts.{stmt_parsers-sound}
-use Rattle.rf_jstmt.proofs.Steps.{step_part, at_last, done, one_more}
+use Rattle.rf_jmods.proofs.Steps.{step_part, at_last, done, one_more}
 
 -- ---- no two blocks have the same tokens
 

@@ -14,7 +14,7 @@ use Rattle.rf_jtree.specs.ExprTrees.{NoOn, On, ArgsTree, Args, expr_yield, args_
 use Rattle.rf_jtree.specs.Kinds.{IsOp, IsKey, IsIdent, is_op_of, is_key_of, has_key, is_literal}
 use Rattle.rf_jtree.specs.Levels.{binary_level}
 use Rattle.rf_jtree.specs.NameFits.{NameFits}
-use Rattle.rf_jtree.specs.NameTrees.{NameTree, Prim, TypeUseTree, name_yield}
+use Rattle.rf_jtree.specs.NameTrees.{NameTree, TypeUseTree, name_yield}
 use Rattle.rf_jexpr.specs.NameReads.{name, brackets, primitive, named_type, type_base, type_use}
 use Rattle.rf_jexpr.specs.Reads.{is_op, is_ident, begins, separated}
 use Rattle.rf_jexpr.proofs.CastLemmas.{bare-read, literal_no_ident, literal_no_word}

@@ -27,7 +27,7 @@ use Rattle.rf_jstmt.specs.StmtReads.{block_alone, empty, labeled, value, if_stmt
 use Rattle.rf_jstmt.specs.StmtStops.{EndsStmts}
 use Rattle.rf_jstmt.specs.VarReads.{marks_local, ends_before, begins_local, begins_label}
 use Rattle.rf_jstmt.proofs.Declares.{ends_type, NoDeclaration, no_declaration}
-use Rattle.rf_jstmt.proofs.ExactMods.{apart_key}
+use Rattle.rf_jmods.proofs.ExactMods.{apart_key}
 use Rattle.rf_jstmt.proofs.Over.{by_brace, by_case, by_default, ends_with, begins_neither}
 use Rattle.rf_jstmt.proofs.StmtFirst.{begins_with_expr}
 

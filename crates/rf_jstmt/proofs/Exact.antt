@@ -19,7 +19,7 @@ use Rattle.rf_jstmt.specs.VarReads.{local, begins_local}
 use Rattle.rf_jstmt.proofs.Dispatch.{key_no_local, op_no_local, label_no_local, expr_no_local, no_stmt, to_block}
 use Rattle.rf_jstmt.proofs.ExactForms.{IsReadWhere, block_alone-exact, empty-exact, labeled-exact, value-exact, if_stmt-exact, while_stmt-exact, do_stmt-exact, jump-exact, return_stmt-exact, throw_stmt-exact, assert_stmt-exact, sync_stmt-exact}
 use Rattle.rf_jstmt.proofs.ExactLists.{for_stmt-exact, each_for-exact, switch_stmt-exact, try_stmt-exact}
-use Rattle.rf_jstmt.proofs.ExactMods.{variable_mods-exact, type_no_mod}
+use Rattle.rf_jmods.proofs.ExactMods.{variable_mods-exact, type_no_mod}
 use Rattle.rf_jstmt.proofs.ExactParts.{AreExactStmts}
 use Rattle.rf_jstmt.proofs.ExactVars.{AreExact, parsers-exact, type-exact, declaration_begins, local_vars-exact}
 use Rattle.rf_jstmt.proofs.SoundParts.{GoodStmt}

@@ -25,7 +25,8 @@ use Rattle.rf_jstmt.proofs.ExactParts.{AreExactStmts, block-exact, expr-exact, h
 use Rattle.rf_jstmt.proofs.ExactVars.{AreExact, is_label}
 use Rattle.rf_jstmt.proofs.Over.{over_calm, over_else, begins_neither}
 use Rattle.rf_jstmt.proofs.SoundForms.{GoodMessage}
-use Rattle.rf_jstmt.proofs.TestLemmas.{Is-is_statement_expr, first_true, second_true}
+use Rattle.rf_jmods.proofs.ModTestLemmas.{first_true, second_true}
+use Rattle.rf_jstmt.proofs.TestLemmas.{Is-is_statement_expr}
 
 -- ---- what ends parts
 

@@ -21,12 +21,12 @@ use Rattle.rf_jexpr.proofs.StopLemmas.{stops_colon, stops_paren}
 use Rattle.rf_jexpr.proofs.CompleteParts.{reads-same}
 use Rattle.rf_jexpr.proofs.Tools.{bind-Some, bind-None, if-true, if-false, when-true, token-at, token-other, optional-Some, optional-None, IsOp-is_op, IsKey-is_key, IsIdent-is_ident}
 use Rattle.rf_jstmt.specs.StmtParts.{StmtParsers}
-use Rattle.rf_jstmt.specs.StmtReads.{basic_for, each_for, local_for, for_stmt, case_group, default_group, group, switch_stmt, catch_part, last_part, last, has_part, try_stmt, stmt}
+use Rattle.rf_jstmt.specs.StmtReads.{basic_for, local_for, for_stmt, case_group, default_group, group, switch_stmt, catch_part, last_part, last, has_part, try_stmt, stmt}
 use Rattle.rf_jstmt.specs.StmtStops.{last_goes_on, Over, EndsStmts}
 use Rattle.rf_jstmt.specs.VarReads.{begins_local}
 use Rattle.rf_jstmt.proofs.Dispatch.{op_no_local, expr_no_local, to_for, to_switch, to_try}
 use Rattle.rf_jstmt.proofs.ExactForms.{IsReadWhere}
-use Rattle.rf_jstmt.proofs.ExactMods.{variable_mods-exact, type_no_mod}
+use Rattle.rf_jmods.proofs.ExactMods.{variable_mods-exact, type_no_mod}
 use Rattle.rf_jstmt.proofs.ExactParts.{AreExactStmts, stmts-exact, block-exact, expr-exact, head-exact, semi_ends_expr, paren_ends_expr, optional_expr-exact, statement_exprs-exact}
 use Rattle.rf_jstmt.proofs.ExactVars.{AreExact, type-exact, declaration_begins, is_label, vars_no_label, local_vars-exact}
 use Rattle.rf_jstmt.proofs.WholeForms.{whole_basic, whole_each, whole_catch, basic_for-whole, each_for-whole, catch_part-whole}

@@ -14,7 +14,8 @@ use Rattle.rf_jtree.specs.NameTrees.{ManyTree, option_yield, many_yield}
 use Rattle.rf_jtree.specs.StmtFits.{IsHead, StmtsFit}
 use Rattle.rf_jtree.specs.StmtShown.{stmts_tree}
 use Rattle.rf_jtree.specs.StmtTrees.{StmtTree, Braces, StmtsTree, NoStmts, Stmts, stmt_yield, block_yield, stmts_yield, stmts_depth}
-use Rattle.rf_jexpr.specs.PartReads.{Parsers, exprs_of}
+use Rattle.rf_jmake.specs.ExprMade.{exprs_of}
+use Rattle.rf_jexpr.specs.PartReads.{Parsers}
 use Rattle.rf_jexpr.specs.Reads.{is_op, is_key, begins, behind}
 use Rattle.rf_jexpr.specs.Stops.{Stops, begins_expr}
 use Rattle.rf_jexpr.proofs.CompleteNames.{Anything}

@@ -24,7 +24,7 @@ use Rattle.rf_jexpr.proofs.StopLemmas.{stops_comma, stops_semicolon}
 use Rattle.rf_jexpr.proofs.Tools.{and_true, bind-Some, bind-None, token-at, token-other, optional-Some, optional-None, IsOp-is_op, IsKey-is_key, IsIdent-is_ident}
 use Rattle.rf_jstmt.specs.VarReads.{var, local_vars, marks_local, ends_before, begins_local, begins_label}
 use Rattle.rf_jstmt.proofs.SoundVars.{GoodVar, GoodLocal, IsMoreVar, GoodBeginning}
-use Rattle.rf_jstmt.proofs.TestLemmas.{first_true, second_true}
+use Rattle.rf_jmods.proofs.ModTestLemmas.{first_true, second_true}
 
 -- the readers of expressions of a room read each one that fits where it stands
 pub record AreExact (room : ℕ) (p : Parsers) : Type 0 where

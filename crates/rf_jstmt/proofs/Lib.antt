@@ -5,19 +5,15 @@ pub mod EndLemmas
 pub mod Exact
 pub mod ExactForms
 pub mod ExactLists
-pub mod ExactMods
 pub mod ExactParts
 pub mod ExactVars
 pub mod LocalLemmas
-pub mod ModLemmas
 pub mod Over
 pub mod SoundForms
 pub mod SoundLists
-pub mod SoundMods
 pub mod SoundParts
 pub mod SoundStmts
 pub mod SoundVars
-pub mod Steps
 pub mod StmtFirst
 pub mod TestLemmas
 mod FrontLemmas

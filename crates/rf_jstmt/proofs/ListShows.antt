@@ -1,33 +1,19 @@
 -- What lists of parts of statements show as, and how deep they are.
 use Rattle.std.proofs.Common.{◌≡◌, ◌≤◌, max, List, [], ◌∷◌, length, map, true, refl, ap, arith}
 use Rattle.rf_jtree.specs.declared.stmts.Catch.{Catch}
-use Rattle.rf_jtree.specs.declared.stmts.Group.{Group}
-use Rattle.rf_jtree.specs.declared.stmts.Stmt.{Stmt}
 use Rattle.rf_jtree.specs.NameTrees.{list_depth}
-use Rattle.rf_jtree.specs.StmtShown.{stmt_shown, group_shown, catch_shown, stmts_tree, groups_tree, catches_tree, stmts_shown, groups_shown, catches_shown}
+use Rattle.rf_jtree.specs.StmtShown.{catch_shown, stmts_tree, groups_tree, catches_tree}
 use Rattle.rf_jtree.specs.StmtTrees.{StmtTree, GroupTree, CatchTree, LastTree, stmt_depth, group_depth, catch_depth, stmts_depth, groups_depth, catches_depth}
 use Rattle.rf_jtree.specs.StmtTrees as t
 use Rattle.rf_jstmt.specs.StmtReads.{has_part}
-
-pub stmts-shown : (list : List Stmt) → stmts_tree (map stmt_shown list) ≡ stmts_shown list
-stmts-shown [] = refl
-stmts-shown (stmt ∷ rest) = ap (t.Stmts (stmt_shown stmt)) (stmts-shown rest)
 
 pub stmts-depth : (list : List StmtTree) → stmts_depth (stmts_tree list) ≡ list_depth stmt_depth list
 stmts-depth [] = refl
 stmts-depth (stmt ∷ rest) = ap (max (stmt_depth stmt)) (stmts-depth rest)
 
-pub groups-shown : (list : List Group) → groups_tree (map group_shown list) ≡ groups_shown list
-groups-shown [] = refl
-groups-shown (group ∷ rest) = ap (t.Groups (group_shown group)) (groups-shown rest)
-
 pub groups-depth : (list : List GroupTree) → groups_depth (groups_tree list) ≡ list_depth group_depth list
 groups-depth [] = refl
 groups-depth (group ∷ rest) = ap (max (group_depth group)) (groups-depth rest)
-
-pub catches-shown : (list : List Catch) → catches_tree (map catch_shown list) ≡ catches_shown list
-catches-shown [] = refl
-catches-shown (part ∷ rest) = ap (t.Catches (catch_shown part)) (catches-shown rest)
 
 pub catches-depth : (list : List CatchTree) → catches_depth (catches_tree list) ≡ list_depth catch_depth list
 catches-depth [] = refl

@@ -5,10 +5,11 @@ use Rattle.rf_jtree.specs.declared.tokens.Tok.{Tok}
 use Rattle.rf_jexpr.specs.NameReads.{name, named_type, type_base, type_use}
 use Rattle.rf_jexpr.specs.PartReads.{Parsers}
 use Rattle.rf_jexpr.specs.Reads.{and_then, when, begins, token, repeat, many, separated}
-use Rattle.rf_jstmt.specs.ModReads.{mods}
+use Rattle.rf_jmods.specs.ModReads.{mods}
 use Rattle.rf_jstmt.specs.StmtReads.{local_stmt}
-use Rattle.rf_jstmt.specs.StmtTests.{none_twice, one_access, mods_fit, variable_mods_fit}
-use Rattle.rf_jstmt.specs.VarReads.{variable_mods, local}
+use Rattle.rf_jmods.specs.ModTests.{none_twice, one_access, mods_fit, variable_mods_fit}
+use Rattle.rf_jmods.specs.ModReads.{variable_mods}
+use Rattle.rf_jstmt.specs.VarReads.{local}
 
 local-nothing : (p : Parsers) → local_stmt p [] ≡ None
 unfolding local_stmt local variable_mods mods many repeat variable_mods_fit mods_fit none_twice one_access type_use type_base named_type name separated begins token when and_then

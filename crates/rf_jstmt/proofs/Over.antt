@@ -10,7 +10,7 @@ use Rattle.rf_jexpr.specs.Reads.{is_op, is_key, begins}
 use Rattle.rf_jexpr.proofs.StopLemmas.{or_false, false_or}
 use Rattle.rf_jexpr.proofs.Tools.{is_op-IsOp, is_key-IsKey}
 use Rattle.rf_jstmt.specs.StmtStops.{last_goes_on, goes_on, other_goes_on, Over, may_go_on, ends_stmts, EndsStmts}
-use Rattle.rf_jstmt.proofs.TestLemmas.{or_true}
+use Rattle.rf_jmods.proofs.ModTestLemmas.{or_true}
 
 -- No other words go on with a statement.
 last_calm : (last : LastTree) (tok : Tok) → may_go_on tok ≡ false → last_goes_on last tok ≡ false

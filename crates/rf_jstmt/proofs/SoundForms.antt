@@ -21,8 +21,9 @@ use Rattle.rf_jstmt.specs.StmtParts.{StmtParsers, block, optional_expr}
 use Rattle.rf_jstmt.specs.StmtReads.{block_alone, empty, labeled, value, other_part, other, if_stmt, while_stmt, do_stmt, jumps, jump, return_stmt, throw_stmt, sync_stmt, assert_stmt, stmt}
 use Rattle.rf_jstmt.specs.StmtTests.{is_statement_expr}
 use Rattle.rf_jstmt.proofs.SoundParts.{GoodPart, AreSoundStmts, block-sound, head_then, step_head, optional_expr-sound}
-use Rattle.rf_jstmt.proofs.Steps.{step_tok, step_part, step_when, tok_then, part_then, at_last, tok_last, done, max_le, one_more, alone}
-use Rattle.rf_jstmt.proofs.TestLemmas.{is_statement_expr-Is, or_true}
+use Rattle.rf_jmods.proofs.Steps.{step_tok, step_part, step_when, tok_then, part_then, at_last, tok_last, done, max_le, one_more, alone}
+use Rattle.rf_jmods.proofs.ModTestLemmas.{or_true}
+use Rattle.rf_jstmt.proofs.TestLemmas.{is_statement_expr-Is}
 
 -- ---- parts that may be left out
 

@@ -21,12 +21,13 @@ use Rattle.rf_jexpr.proofs.SoundParts.{AreSound}
 use Rattle.rf_jexpr.proofs.Tools.{either_way, bound, of_bind, is_op-IsOp, is_key-IsKey, is_ident-IsIdent}
 use Rattle.rf_jstmt.specs.StmtParts.{StmtParsers, stmts, block, optional_expr, statement_exprs}
 use Rattle.rf_jstmt.specs.StmtReads.{basic_for, each_for, local_for, for_stmt, case_group, default_group, group, switch_stmt, catch_part, last_part, last, has_part, try_stmt}
-use Rattle.rf_jstmt.specs.VarReads.{variable_mods, local_vars, begins_local, begins_label}
+use Rattle.rf_jmods.specs.ModReads.{variable_mods}
+use Rattle.rf_jstmt.specs.VarReads.{local_vars, begins_local, begins_label}
 use Rattle.rf_jstmt.proofs.WholeForms.{whole_basic, whole_each, whole_catch, basic_for-whole, each_for-whole, catch_part-whole}
-use Rattle.rf_jstmt.proofs.SoundMods.{variable_mods-sound}
+use Rattle.rf_jmods.proofs.SoundMods.{variable_mods-sound}
 use Rattle.rf_jstmt.proofs.SoundParts.{GoodPart, AreSoundStmts, stmts-sound, block-sound, head_then, step_head, optional_expr-sound, statement_exprs-sound}
 use Rattle.rf_jstmt.proofs.SoundVars.{local_vars-sound}
-use Rattle.rf_jstmt.proofs.Steps.{step_tok, step_part, step_when, tok_then, part_then, at_last, tok_last, done, max_le, one_more}
+use Rattle.rf_jmods.proofs.Steps.{step_tok, step_part, step_when, tok_then, part_then, at_last, tok_last, done, max_le, one_more}
 use Rattle.rf_jstmt.proofs.TestLemmas.{has_part-Has}
 
 -- ---- the lists

@@ -13,7 +13,8 @@ use Rattle.rf_jtree.specs.NameTrees.{option_yield, option_depth}
 use Rattle.rf_jtree.specs.StmtFits.{IsNoLocal, AreStatementExprs, IsHead, StmtFits, BlockFits, StmtsFit}
 use Rattle.rf_jtree.specs.StmtShown.{stmts_tree}
 use Rattle.rf_jtree.specs.StmtTrees.{StmtTree, BlockTree, Braces, StmtsTree, stmt_yield, block_yield, stmts_yield, stmt_depth, block_depth, stmts_depth}
-use Rattle.rf_jexpr.specs.PartReads.{Parsers, exprs_of}
+use Rattle.rf_jmake.specs.ExprMade.{exprs_of}
+use Rattle.rf_jexpr.specs.PartReads.{Parsers}
 use Rattle.rf_jexpr.specs.Reads.{◌>>=◌, is_op, is_key, begins, many, separated}
 use Rattle.rf_jexpr.specs.Stops.{begins_expr}
 use Rattle.rf_jexpr.proofs.LoopLemmas.{IsSound, many-sound, separated-sound}
@@ -21,7 +22,7 @@ use Rattle.rf_jexpr.proofs.SoundParts.{Good, AreSound, exprs-good, exprs_yield-o
 use Rattle.rf_jexpr.proofs.Tools.{either_way, bound, of_bind, is_op-IsOp, is_key-IsKey, by_some}
 use Rattle.rf_jstmt.specs.StmtParts.{StmtParsers, stmts, block, Head, head, optional_expr, some_exprs, statement_exprs}
 use Rattle.rf_jstmt.specs.StmtTests.{are_statement_exprs}
-use Rattle.rf_jstmt.proofs.Steps.{step_tok, step_part, step_when, Takes, tok_then, part_then, at_last, tok_last, done, max_le}
+use Rattle.rf_jmods.proofs.Steps.{step_tok, step_part, step_when, Takes, tok_then, part_then, at_last, tok_last, done, max_le}
 use Rattle.rf_jstmt.proofs.TestLemmas.{are_statement_exprs-Are}
 
 -- ---- statements

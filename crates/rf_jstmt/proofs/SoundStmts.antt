@@ -20,7 +20,7 @@ use Rattle.rf_jstmt.proofs.SoundParts.{GoodStmt, GoodPart, AreSoundStmts}
 use Rattle.rf_jstmt.proofs.SoundForms.{block_alone-sound, empty-sound, labeled-sound, value-sound, if_stmt-sound, while_stmt-sound, do_stmt-sound, jump-sound, return_stmt-sound, throw_stmt-sound, sync_stmt-sound, assert_stmt-sound}
 use Rattle.rf_jstmt.proofs.SoundLists.{for_stmt-sound, switch_stmt-sound, try_stmt-sound}
 use Rattle.rf_jstmt.proofs.SoundVars.{local-sound}
-use Rattle.rf_jstmt.proofs.Steps.{step_tok, step_part, part_then, tok_last, done, one_more}
+use Rattle.rf_jmods.proofs.Steps.{step_tok, step_part, part_then, tok_last, done, one_more}
 
 -- ---- one room from the room below it
 

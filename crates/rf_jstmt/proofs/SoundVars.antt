@@ -15,9 +15,10 @@ use Rattle.rf_jexpr.proofs.LoopLemmas.{Read, IsSound, separated-sound, behind-so
 use Rattle.rf_jexpr.proofs.SoundNames.{optional-sound, dims-sound, type_use-sound}
 use Rattle.rf_jexpr.proofs.SoundParts.{AreSound, GoodInit}
 use Rattle.rf_jexpr.proofs.Tools.{is_ident-IsIdent}
-use Rattle.rf_jstmt.specs.VarReads.{var, variable_mods, local_vars, local}
-use Rattle.rf_jstmt.proofs.SoundMods.{variable_mods-sound}
-use Rattle.rf_jstmt.proofs.Steps.{step_tok, step_part, done, tok_then, part_then, at_last, max_le}
+use Rattle.rf_jmods.specs.ModReads.{variable_mods}
+use Rattle.rf_jstmt.specs.VarReads.{var, local_vars, local}
+use Rattle.rf_jmods.proofs.SoundMods.{variable_mods-sound}
+use Rattle.rf_jmods.proofs.Steps.{step_tok, step_part, done, tok_then, part_then, at_last, max_le}
 
 pub record GoodVar (room : ℕ) (var : VarTree) : Type 0 where
   pub fits : VarFits var

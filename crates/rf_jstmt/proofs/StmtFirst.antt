@@ -18,7 +18,7 @@ use Rattle.rf_jexpr.proofs.First.{begins_first, expr_first-begins}
 use Rattle.rf_jexpr.proofs.StopLemmas.{weaker, false_or}
 use Rattle.rf_jexpr.proofs.Tools.{is_key-IsKey}
 use Rattle.rf_jstmt.specs.StmtStops.{may_go_on}
-use Rattle.rf_jstmt.proofs.ExactMods.{apart_key}
+use Rattle.rf_jmods.proofs.ExactMods.{apart_key}
 
 -- ---- expressions
 

@@ -10,8 +10,9 @@ use Rattle.rf_jtree.specs.ExprTrees.{ExprTree, ExprsTree, Exprs, MoreExprs}
 use Rattle.rf_jtree.specs.StmtFits.{IsStatementExpr, AreStatementExprs}
 use Rattle.rf_jtree.specs.ExprShown.{expr_shown, exprs_shown, more_exprs_tree, more_exprs_shown}
 use Rattle.rf_jtree.specs.NameTrees.{ManyTree}
-use Rattle.rf_jexpr.specs.Made.{exprs_found, item_shown}
-use Rattle.rf_jexpr.specs.PartReads.{Parsers, exprs_of}
+use Rattle.rf_jmake.specs.ExprMade.{exprs_found, item_shown}
+use Rattle.rf_jmake.specs.ExprMade.{exprs_of}
+use Rattle.rf_jexpr.specs.PartReads.{Parsers}
 use Rattle.rf_jexpr.specs.Reads.{and_then, is_key, begins, token, when, optional, separated}
 use Rattle.rf_jexpr.proofs.Tools.{read, left_out, of_optional, when-true, when-false}
 use Rattle.rf_jstmt.specs.StmtParts.{some_exprs}

@@ -1,5 +1,4 @@
 pub mod BlockAt
-pub mod ModReads
 pub mod StmtGives
 pub mod StmtMade
 pub mod StmtParts

@@ -1,14 +1,13 @@
 -- What the parts of statements show as, where they are not yet in one piece, and how deep lists of them are.
-use Rattle.std.specs.Prelude.{◌≡◌, ℕ, ◌+◌, ◌≤◌, List, drop, length, map, Option, Some, None, Result, Ok, Err}
+use Rattle.std.specs.Prelude.{◌≡◌, ℕ, ◌+◌, ◌≤◌, List, drop, length, Option, Some, None, Result, Ok, Err}
 use Rattle.std.specs.declared.alloc.Global.{Global}
 use Rattle.std.specs.declared.boxed.Box.{Box}
 use Rattle.rf_jtree.specs.declared.stmts.Catch.{Catch}
 use Rattle.rf_jtree.specs.declared.stmts.ForFirst.{ForFirst}
-use Rattle.rf_jtree.specs.declared.stmts.Group.{Group}
 use Rattle.rf_jtree.specs.declared.stmts.Stmt.{Stmt}
 use Rattle.rf_jtree.specs.declared.tokens.Tok.{Tok}
 use Rattle.rf_jtree.specs.NameShown.{name_shown}
-use Rattle.rf_jtree.specs.StmtShown.{catch_shown, catches_tree, first_shown, group_shown, groups_tree, stmt_shown}
+use Rattle.rf_jtree.specs.StmtShown.{catches_tree, first_shown, groups_tree, stmt_shown}
 use Rattle.rf_jtree.specs.StmtTrees.{BlockTree, CatchTree, GroupTree, StmtTree, catches_depth, first_depth, groups_depth, stmt_depth}
 use Rattle.rf_jtree.specs.StmtTrees as t
 use Rattle.rf_jexpr.specs.declared.found.Found.{Found}
@@ -18,8 +17,8 @@ use Rattle.rf_jexpr.specs.Descent.{parsers}
 use Rattle.rf_jexpr.specs.Gives.{GivesTree}
 use Rattle.rf_jexpr.specs.PartReads.{Parsers}
 use Rattle.rf_jexpr.specs.Reads.{Reads}
-use Rattle.rf_jstmt.specs.declared.tries.CatchHead.{CatchHead as CatchHeadParts}
-use Rattle.rf_jstmt.specs.StmtMade.{boxed_stmt_shown}
+use Rattle.rf_jmake.specs.declared.stmts.CatchHead.{CatchHead as CatchHeadParts}
+use Rattle.rf_jmake.specs.StmtMade.{boxed_stmt_shown}
 use Rattle.rf_jstmt.specs.StmtParts.{CatchHead, StmtParsers}
 use Rattle.rf_jstmt.specs.StmtReads.{stmt_parsers}
 
@@ -37,15 +36,8 @@ catch_head_shown head = record {
 abbrev pub catch_tree : CatchHead → BlockTree → CatchTree
 catch_tree head body = t.Catch head.word head.left head.fixed head.sort head.id head.right body
 
--- groups, and catch clauses
-abbrev pub groups_found : List Group → List GroupTree
-groups_found groups = map group_shown groups
-
 abbrev pub groups_found_depth : List GroupTree → ℕ
 groups_found_depth groups = groups_depth (groups_tree groups)
-
-abbrev pub catches_found : List Catch → List CatchTree
-catches_found catches = map catch_shown catches
 
 abbrev pub catches_found_depth : List CatchTree → ℕ
 catches_found_depth catches = catches_depth (catches_tree catches)

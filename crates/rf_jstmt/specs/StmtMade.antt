@@ -1,38 +1,24 @@
 -- What the code makes of parts that were read.
-use Rattle.std.specs.Prelude.{◌≡◌, ℕ, ◌≤◌, ◌++◌, max, List, [], ◌∷◌, drop, length, Option, Some, None, Result, Bool, IfOk}
+use Rattle.std.specs.Prelude.{◌≡◌, ℕ, ◌≤◌, ◌++◌, max, List, [], ◌∷◌, drop, length, Option, Some, None, Bool}
 use Rattle.std.specs.declared.alloc.Global.{Global}
 use Rattle.std.specs.declared.boxed.Box.{Box}
-use Rattle.rf_jtree.specs.declared.exprs.Expr.{Expr}
 use Rattle.rf_jtree.specs.declared.exprs.Init.{Init}
 use Rattle.rf_jtree.specs.declared.stmts.EachHead.{EachHead as EachHeadParts}
 use Rattle.rf_jtree.specs.declared.stmts.ForHead.{ForHead as ForHeadParts}
 use Rattle.rf_jtree.specs.declared.stmts.Head.{Head as HeadParts}
-use Rattle.rf_jtree.specs.declared.stmts.Stmt.{Stmt}
 use Rattle.rf_jtree.specs.declared.stmts.Var.{Var}
 use Rattle.rf_jtree.specs.declared.tokens.Tok.{Tok}
 use Rattle.rf_jtree.specs.ExprShown.{exprs_shown}
 use Rattle.rf_jtree.specs.ExprTrees.{ExprTree, InitTree, expr_depth, exprs_depth, init_depth}
 use Rattle.rf_jtree.specs.NameShown.{mods_shown, type_shown}
 use Rattle.rf_jtree.specs.NameTrees.{option_depth}
-use Rattle.rf_jtree.specs.StmtShown.{first_shown, optional_expr_shown, stmt_shown, var_shown}
-use Rattle.rf_jtree.specs.StmtTrees.{StmtTree, VarTree, first_depth, var_depth}
-use Rattle.rf_text.specs.declared.memory.Memory.{Memory}
-use Rattle.rf_jexpr.specs.declared.found.Found.{Found}
-use Rattle.rf_jexpr.specs.Made.{boxed_shown, boxed_init_shown}
+use Rattle.rf_jtree.specs.StmtShown.{first_shown, optional_expr_shown, var_shown}
+use Rattle.rf_jtree.specs.StmtTrees.{VarTree, first_depth, var_depth}
+use Rattle.rf_jmake.specs.ExprMade.{boxed_shown, boxed_init_shown}
 use Rattle.rf_jexpr.specs.Reads.{Reads, ◌>>=◌, token}
-use Rattle.rf_jstmt.specs.StmtParts.{EachHead, ForHead, Head}
-
--- what stands behind a pointer, shown
-abbrev pub boxed_stmt_shown : Box Stmt Global → StmtTree
-boxed_stmt_shown boxed = stmt_shown boxed.value
-
--- a statement, where there is memory for it
-abbrev pub MakesStmt : Result (Box Stmt Global) Memory → StmtTree → Type 0
-MakesStmt result tree = IfOk result (λ found. boxed_stmt_shown found ≡ tree)
-
--- one part more, from behind its pointer
-abbrev pub IsJoined : {A : Type 0} → Found (List A) → Found (Box A Global) → Found (List A) → Type 0
-IsJoined parts next x = (x.tree ≡ parts.tree ++ next.tree.value ∷ []) × (x.end ≡ next.end) × (x.depth ≡ max parts.depth next.depth)
+use Rattle.rf_jstmt.specs.declared.loops.EachRest.{EachRest as EachRestParts}
+use Rattle.rf_jstmt.specs.declared.loops.ForRest.{ForRest as ForRestParts}
+use Rattle.rf_jstmt.specs.StmtParts.{EachHead, EachRest, ForHead, ForRest, Head}
 
 -- a keyword with an expression in parentheses behind it
 abbrev pub head_shown : Box HeadParts Global → Head
@@ -77,6 +63,30 @@ each_head_shown head = record {
 abbrev pub each_head_depth : EachHead → ℕ
 each_head_depth head = expr_depth head.over
 
+-- the rest of each, behind what stands first
+abbrev pub for_rest_shown : ForRestParts → ForRest
+for_rest_shown rest = record {
+  semi1 = rest.semi1;
+  test = optional_expr_shown rest.test;
+  semi2 = rest.semi2;
+  last = exprs_shown rest.last;
+  right = rest.right;
+}
+
+abbrev pub for_rest_depth : ForRest → ℕ
+for_rest_depth rest = max (option_depth expr_depth rest.test) (exprs_depth rest.last)
+
+abbrev pub each_rest_shown : EachRestParts → EachRest
+each_rest_shown rest = record {
+  id = rest.id;
+  colon = rest.colon;
+  over = boxed_shown rest.over;
+  right = rest.right;
+}
+
+abbrev pub each_rest_depth : EachRest → ℕ
+each_rest_depth rest = expr_depth rest.over
+
 -- a variable behind a pointer
 abbrev pub boxed_var_shown : Box Var Global → VarTree
 boxed_var_shown boxed = var_shown boxed.value
@@ -87,9 +97,6 @@ boxed_beginning_shown part = (part.0, boxed_init_shown part.1)
 
 abbrev pub beginning_depth : Tok × InitTree → ℕ
 beginning_depth part = init_depth part.1
-
-abbrev pub boxed_message_shown : Tok × Box Expr Global → Tok × ExprTree
-boxed_message_shown part = (part.0, boxed_shown part.1)
 
 abbrev pub message_depth : Tok × ExprTree → ℕ
 message_depth part = expr_depth part.1

@@ -9,7 +9,8 @@ use Rattle.rf_jtree.specs.NameTrees.{NameTree, ModTree, TypeUseTree}
 use Rattle.rf_jtree.specs.StmtShown.{stmts_tree}
 use Rattle.rf_jtree.specs.StmtTrees.{ForFirstTree, StmtTree, BlockTree, Braces, StmtsTree}
 use Rattle.rf_jexpr.specs.NameReads.{name}
-use Rattle.rf_jexpr.specs.PartReads.{Parsers, exprs_of}
+use Rattle.rf_jmake.specs.ExprMade.{exprs_of}
+use Rattle.rf_jexpr.specs.PartReads.{Parsers}
 use Rattle.rf_jexpr.specs.Reads.{Reads, ◌>>=◌, when, is_op, is_key, is_ident, begins, token, optional, many, separated}
 use Rattle.rf_jexpr.specs.Stops.{begins_expr}
 use Rattle.rf_jstmt.specs.StmtTests.{are_statement_exprs}
@@ -73,14 +74,27 @@ pub record ForHead : Type 0 where
   pub last : ExprsTree
   pub right : Tok
 
-unfoldable pub for_head : Parsers → Tok → Tok → ForFirstTree → Reads ForHead
-for_head p word left first toks = do
+-- what of it stands behind its first part
+pub record ForRest : Type 0 where
+  pub semi1 : Tok
+  pub test : Option ExprTree
+  pub semi2 : Tok
+  pub last : ExprsTree
+  pub right : Tok
+
+unfoldable pub for_rest : Parsers → Reads ForRest
+for_rest p toks = do
   semi1 ← token (is_op SEMICOLON) toks
   test ← optional_expr p semi1.1
   semi2 ← token (is_op SEMICOLON) test.1
   last ← statement_exprs p semi2.1
   right ← token (is_op RIGHT_PAREN) last.1
-  Some (record { word = word; left = left; first = first; semi1 = semi1.0; test = test.0; semi2 = semi2.0; last = last.0; right = right.0 }, right.1)
+  Some (record { semi1 = semi1.0; test = test.0; semi2 = semi2.0; last = last.0; right = right.0 }, right.1)
+
+unfoldable pub for_head : Parsers → Tok → Tok → ForFirstTree → Reads ForHead
+for_head p word left first toks = do
+  rest ← for_rest p toks
+  Some (record { word = word; left = left; first = first; semi1 = rest.0.semi1; test = rest.0.test; semi2 = rest.0.semi2; last = rest.0.last; right = rest.0.right }, rest.1)
 
 -- a `for` over what an expression gives, up to its body, read from behind its type (JLS 14.14.2)
 pub record EachHead : Type 0 where
@@ -93,13 +107,25 @@ pub record EachHead : Type 0 where
   pub over : ExprTree
   pub right : Tok
 
-unfoldable pub each_head : Parsers → Tok → Tok → List ModTree → TypeUseTree → Reads EachHead
-each_head p word left mods sort toks = do
+-- what of it stands behind its type
+pub record EachRest : Type 0 where
+  pub id : Tok
+  pub colon : Tok
+  pub over : ExprTree
+  pub right : Tok
+
+unfoldable pub each_rest : Parsers → Reads EachRest
+each_rest p toks = do
   id ← token is_ident toks
   colon ← token (is_op COLON) id.1
   over ← p.expr colon.1
   right ← token (is_op RIGHT_PAREN) over.1
-  Some (record { word = word; left = left; mods = mods; sort = sort; id = id.0; colon = colon.0; over = over.0; right = right.0 }, right.1)
+  Some (record { id = id.0; colon = colon.0; over = over.0; right = right.0 }, right.1)
+
+unfoldable pub each_head : Parsers → Tok → Tok → List ModTree → TypeUseTree → Reads EachHead
+each_head p word left mods sort toks = do
+  rest ← each_rest p toks
+  Some (record { word = word; left = left; mods = mods; sort = sort; id = rest.0.id; colon = rest.0.colon; over = rest.0.over; right = rest.0.right }, rest.1)
 
 -- a catch clause up to its block (JLS 14.20)
 pub record CatchHead : Type 0 where

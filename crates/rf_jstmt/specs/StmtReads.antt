@@ -1,7 +1,7 @@
 -- The readers of statements: those of each room from those of the room below it.
 use Rattle.std.specs.Prelude.{ℕ, zero, suc, List, Some, None, Bool, true, false, not, ◌||◌, if◌then◌else◌}
 use Rattle.rf_jtree.specs.declared.tokens.Tok.{Tok}
-use Rattle.rf_jtree.specs.declared.operator_names.TheConstants.{LEFT_PAREN, RIGHT_PAREN, LEFT_BRACE, RIGHT_BRACE, SEMICOLON, COLON}
+use Rattle.rf_jtree.specs.declared.operator_names.TheConstants.{LEFT_PAREN, LEFT_BRACE, RIGHT_BRACE, SEMICOLON, COLON}
 use Rattle.rf_jtree.specs.declared.keyword_names.TheConstants.{ASSERT, BREAK, CASE, CONTINUE, DEFAULT, DO, ELSE, FINALLY, FOR, IF, RETURN, SWITCH, SYNCHRONIZED, THROW, TRY, WHILE}
 use Rattle.rf_jtree.specs.NameTrees.{ModTree, TypeUseTree}
 use Rattle.rf_jtree.specs.StmtFits.{ends_open}
@@ -15,7 +15,8 @@ use Rattle.rf_jexpr.specs.Reads.{Reads, ◌>>=◌, when, is_op, is_key, is_ident
 use Rattle.rf_jexpr.specs.Stops.{begins_expr}
 use Rattle.rf_jstmt.specs.StmtParts.{StmtParsers, stmts, block, head, statement_exprs, optional_expr, for_head, each_head, catch_head}
 use Rattle.rf_jstmt.specs.StmtTests.{is_statement_expr}
-use Rattle.rf_jstmt.specs.VarReads.{variable_mods, local_vars, local, begins_local, begins_label}
+use Rattle.rf_jmods.specs.ModReads.{variable_mods}
+use Rattle.rf_jstmt.specs.VarReads.{local_vars, local, begins_local, begins_label}
 
 -- In what follows `p` and `s` have the room that is left for parts, and so the statement that is read has one more.
 

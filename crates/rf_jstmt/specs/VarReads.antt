@@ -8,9 +8,8 @@ use Rattle.rf_jtree.specs.NameTrees.{ModTree, TypeUseTree}
 use Rattle.rf_jtree.specs.StmtTrees.{VarTree, LocalTree}
 use Rattle.rf_jexpr.specs.NameReads.{dims, type_use}
 use Rattle.rf_jexpr.specs.PartReads.{Parsers}
-use Rattle.rf_jexpr.specs.Reads.{Reads, ◌>>=◌, when, is_op, is_key, is_ident, begins, token, optional, behind, separated}
-use Rattle.rf_jstmt.specs.ModReads.{mods}
-use Rattle.rf_jstmt.specs.StmtTests.{variable_mods_fit}
+use Rattle.rf_jexpr.specs.Reads.{Reads, ◌>>=◌, is_op, is_key, is_ident, begins, token, optional, behind, separated}
+use Rattle.rf_jmods.specs.ModReads.{variable_mods}
 
 -- In what follows `p` has the room that is left for expressions.
 
@@ -21,10 +20,6 @@ var p toks = do
   ends ← dims id.1
   beginning ← optional (behind (is_op ASSIGN) p.init) ends.1
   Some (record { id = id.0; dims = ends.0; init = beginning.0 }, beginning.1)
-
--- the modifiers of a local variable or a parameter (JLS 8.4.1, 14.4)
-unfoldable pub variable_mods : Reads (List ModTree)
-variable_mods toks = mods toks >>= λ found. when (variable_mods_fit found.0) (Some found)
 
 -- the variables of a local declaration, behind its modifiers and its type
 unfoldable pub local_vars : Parsers → List ModTree → TypeUseTree → Reads LocalTree

@@ -6,10 +6,9 @@ ghost use Rattle.rf_jstmt.specs.StmtParts.{stmts, block};
 ghost use Rattle.rf_jstmt.specs.StmtReads.{stmt_parsers, block_alone};
 ghost use Rattle.rf_jstmt.specs.StmtGives.{GivesForm};
 
-use crate::boxes::joined;
-use crate::nodes::{block_of, braces_of};
 use crate::top::block_stmt;
-use rf_jexpr::{Found, ParseErr, Want, attempt, take};
+use rf_jexpr::{Found, ParseErr, Want, attempt, joined, take};
+use rf_jmake::stmts::{block_of, braces_of};
 use rf_jtree::operator_names::{LEFT_BRACE, RIGHT_BRACE};
 use rf_jtree::{Block, Stmt, Tok};
 use rf_text::{List, Memory};

@@ -5,16 +5,17 @@ ghost use Rattle.rf_jtree.specs.StmtTrees.{group_depth, other_depth};
 ghost use Rattle.rf_jexpr.specs.Descent.{parsers};
 ghost use Rattle.rf_jexpr.specs.Gives.{GivesTree, IsFound};
 ghost use Rattle.rf_jexpr.specs.Reads.{many};
-ghost use Rattle.rf_jstmt.specs.StmtGives.{groups_found, groups_found_depth, GivesForm};
-ghost use Rattle.rf_jstmt.specs.StmtMade.{boxed_stmt_shown};
+ghost use Rattle.rf_jmake.specs.StmtMade.{groups_found};
+ghost use Rattle.rf_jstmt.specs.StmtGives.{groups_found_depth, GivesForm};
+ghost use Rattle.rf_jmake.specs.StmtMade.{boxed_stmt_shown};
 ghost use Rattle.rf_jstmt.specs.StmtReads.{stmt_parsers, labeled, other_part, other, if_stmt, case_group, default_group, group, switch_stmt};
 
 use crate::blocks::stmts;
 use crate::heads::head_at;
-use crate::nodes::{group_of, if_of, label_of, switch_of};
 use crate::top::stmt;
 use rf_jexpr::{Found, ParseErr, Want, attempt, boxed_expr, deeper, grown, is_at, take};
 use rf_jfit::ends_open;
+use rf_jmake::stmts::{group_of, if_of, label_of, switch_of};
 use rf_jtree::keyword_names::{CASE, DEFAULT, ELSE, IF, SWITCH};
 use rf_jtree::operator_names::{COLON, LEFT_BRACE, RIGHT_BRACE};
 use rf_jtree::{Group, Stmt, Tok};
@@ -88,11 +89,7 @@ fn other(
         (other (stmt_parsers room) (boxed_stmt_shown first.now) (drop at t.now)) }
 {
     if !is_at(t, at, Want::Key(ELSE)) {
-        return Ok(Found {
-            tree: None,
-            end: at,
-            depth: 0,
-        });
+        return Ok(Found::left_out(at));
     }
     if is_open(first) {
         return Err(ParseErr::NoTree);

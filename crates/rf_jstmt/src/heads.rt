@@ -4,16 +4,16 @@ ghost use Rattle.rf_jtree.specs.ExprTrees.{expr_depth, exprs_depth};
 ghost use Rattle.rf_jtree.specs.NameTrees.{option_depth};
 ghost use Rattle.rf_jexpr.specs.Descent.{parsers};
 ghost use Rattle.rf_jexpr.specs.Gives.{GivesTree};
-ghost use Rattle.rf_jexpr.specs.Made.{boxed_shown};
+ghost use Rattle.rf_jmake.specs.ExprMade.{boxed_shown};
 ghost use Rattle.rf_jexpr.specs.Reads.{begins};
 ghost use Rattle.rf_jexpr.specs.Stops.{begins_expr};
 ghost use Rattle.rf_jstmt.specs.StmtMade.{head_shown, head_depth};
 ghost use Rattle.rf_jstmt.specs.StmtParts.{head, optional_expr, statement_exprs};
 ghost use Rattle.rf_jstmt.specs.StmtTests.{is_statement_expr, are_statement_exprs};
 
-use crate::boxes::put;
 use rf_jexpr::{Found, ParseErr, Want, boxed_expr, exprs, take, tok_at};
 use rf_jfit::{are_statement_exprs, begins_operand, is_op_of, is_statement_expr};
+use rf_jmake::put;
 use rf_jtree::operator_names::{LEFT_PAREN, PREFIXES, RIGHT_PAREN};
 use rf_jtree::{Expr, Head, Kw, Many, Tok};
 use std::alloc::Global;
@@ -78,11 +78,7 @@ pub(crate) fn optional_expr(
         (optional_expr (parsers room) (drop at t.now)) }
 {
     if !begins_expr_at(t, at) {
-        return Ok(Found {
-            tree: None,
-            end: at,
-            depth: 0,
-        });
+        return Ok(Found::left_out(at));
     }
     let value = boxed_expr(alloc, t, at, room)?;
     Ok(Found {
@@ -118,11 +114,7 @@ pub(crate) fn statement_exprs(
         (statement_exprs (parsers room) (drop at t.now)) }
 {
     if !begins_expr_at(t, at) {
-        return Ok(Found {
-            tree: None,
-            end: at,
-            depth: 0,
-        });
+        return Ok(Found::left_out(at));
     }
     let list = exprs(alloc, t, at, room)?;
     if list.tree.is_none() {

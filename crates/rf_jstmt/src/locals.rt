@@ -9,9 +9,9 @@ ghost use Rattle.rf_jexpr.specs.Reads.{begins, is_ident};
 ghost use Rattle.rf_jstmt.specs.VarReads.{local_vars, local, begins_label, begins_local, ends_before, marks_local};
 
 use crate::ends::{tok_end, type_end};
-use crate::modifiers::variable_mods;
 use crate::variables::vars;
 use rf_jexpr::{Found, ParseErr, Want, is_at, type_use};
+use rf_jmods::variable_mods;
 use rf_jtree::keyword_names::FINAL;
 use rf_jtree::operator_names::{AT, COLON};
 use rf_jtree::{Local, Mod, Tok, TypeUse};

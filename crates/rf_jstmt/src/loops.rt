@@ -4,20 +4,20 @@ ghost use Rattle.rf_jtree.specs.StmtShown.{first_shown};
 ghost use Rattle.rf_jexpr.specs.Descent.{parsers};
 ghost use Rattle.rf_jexpr.specs.Gives.{GivesTree};
 ghost use Rattle.rf_jstmt.specs.StmtGives.{IsFirstKnown, GivesForm};
-ghost use Rattle.rf_jstmt.specs.StmtMade.{for_head_shown, for_head_depth, each_head_shown, each_head_depth};
-ghost use Rattle.rf_jstmt.specs.StmtParts.{for_head, each_head};
+ghost use Rattle.rf_jstmt.specs.StmtMade.{for_head_shown, for_head_depth, each_head_shown, each_head_depth, for_rest_shown, for_rest_depth, each_rest_shown, each_rest_depth};
+ghost use Rattle.rf_jstmt.specs.StmtParts.{for_head, each_head, for_rest, each_rest};
 ghost use Rattle.rf_jstmt.specs.StmtReads.{while_stmt, do_stmt, basic_for, each_for, local_for, for_stmt};
 
-use crate::boxes::put;
 use crate::heads::{head_at, optional_expr, statement_exprs};
 use crate::locals::{begins_label_at, begins_local, local_vars};
-use crate::modifiers::variable_mods;
-use crate::nodes::{do_of, each_of, for_of, while_of};
 use crate::top::stmt;
-use rf_jexpr::{Found, ParseErr, Want, boxed_expr, deeper, take, type_use};
+use rf_jexpr::{Found, ParseErr, Want, boxed_expr, deeper, pair, pair_found, take, type_use};
+use rf_jmake::put;
+use rf_jmake::stmts::{do_of, each_of, for_of, while_of};
+use rf_jmods::variable_mods;
 use rf_jtree::keyword_names::{DO, FOR, WHILE};
 use rf_jtree::operator_names::{COLON, LEFT_PAREN, RIGHT_PAREN, SEMICOLON};
-use rf_jtree::{EachHead, ForFirst, ForHead, Mod, Stmt, Tok, TypeUse};
+use rf_jtree::{EachHead, Expr, ForFirst, ForHead, Many, Mod, Stmt, Tok, TypeUse};
 use rf_text::List;
 use std::alloc::Global;
 
@@ -67,7 +67,42 @@ pub(crate) fn do_stmt(
     })
 }
 
+/// What of a basic `for` stands behind its first part, up to its body.
+#[derive(Drop)]
+pub(crate) struct ForRest {
+    pub semi1: Tok,
+    pub test: Option<Box<Expr>>,
+    pub semi2: Tok,
+    pub last: Option<Many<Expr>>,
+    pub right: Tok,
+}
+
 /// `; test; last)` of a `for`, behind its first part (JLS 14.14.1).
+#[tactic(auto, unfolding(crate::specs::StmtParts::for_rest, rf_jexpr::specs::Reads::and_then))]
+fn for_rest(alloc: Global, t: &[Tok], at: usize, room: u32) -> Result<Found<ForRest>, ParseErr>
+    ensures { GivesTree for_rest_shown for_rest_depth room t.now at result
+        (for_rest (parsers room) (drop at t.now)) }
+{
+    let semi1 = take(alloc, t, at, Want::Op(SEMICOLON))?;
+    let test = pair_found(optional_expr(alloc, t, semi1.end, room), semi1.item)?;
+    let semi2 = pair(take(alloc, t, test.end, Want::Op(SEMICOLON)), test.tree)?;
+    let last = pair_found(statement_exprs(alloc, t, semi2.end, room), semi2.item)?;
+    let right = pair(take(alloc, t, last.end, Want::Op(RIGHT_PAREN)), last.tree)?;
+    let ((((first, value), second), values), end) = right.item;
+    Ok(Found {
+        tree: ForRest {
+            semi1: first,
+            test: value,
+            semi2: second,
+            last: values,
+            right: end,
+        },
+        end: right.end,
+        depth: deeper(test.depth, last.depth),
+    })
+}
+
+/// A basic `for` up to its body, behind its first part (JLS 14.14.1).
 #[tactic(auto, unfolding(crate::specs::StmtParts::for_head, rf_jexpr::specs::Reads::and_then))]
 fn for_head(
     alloc: Global,
@@ -82,25 +117,21 @@ fn for_head(
     ensures { GivesTree for_head_shown for_head_depth room t.now first.end result
         (for_head (parsers room) word left (first_shown first.tree) (drop first.end t.now)) }
 {
-    let semi1 = take(alloc, t, first.end, Want::Op(SEMICOLON))?;
-    let test = optional_expr(alloc, t, semi1.end, room)?;
-    let semi2 = take(alloc, t, test.end, Want::Op(SEMICOLON))?;
-    let last = statement_exprs(alloc, t, semi2.end, room)?;
-    let right = take(alloc, t, last.end, Want::Op(RIGHT_PAREN))?;
+    let rest = for_rest(alloc, t, first.end, room)?;
     let head = ForHead {
         word,
         left,
         first: first.tree,
-        semi1: semi1.item,
-        test: test.tree,
-        semi2: semi2.item,
-        last: last.tree,
-        right: right.item,
+        semi1: rest.tree.semi1,
+        test: rest.tree.test,
+        semi2: rest.tree.semi2,
+        last: rest.tree.last,
+        right: rest.tree.right,
     };
     Ok(Found {
         tree: put(alloc, head)?,
-        end: right.end,
-        depth: deeper(first.depth, deeper(test.depth, last.depth)),
+        end: rest.end,
+        depth: deeper(first.depth, rest.depth),
     })
 }
 
@@ -130,7 +161,39 @@ fn basic_for(
     })
 }
 
+/// What of a `for` over what an expression gives stands behind its type, up to its body.
+#[derive(Drop)]
+pub(crate) struct EachRest {
+    pub id: Tok,
+    pub colon: Tok,
+    pub over: Box<Expr>,
+    pub right: Tok,
+}
+
 /// `x : over)` of a `for`, behind its type (JLS 14.14.2).
+#[tactic(auto, unfolding(crate::specs::StmtParts::each_rest, rf_jexpr::specs::Reads::and_then))]
+fn each_rest(alloc: Global, t: &[Tok], at: usize, room: u32) -> Result<Found<EachRest>, ParseErr>
+    ensures { GivesTree each_rest_shown each_rest_depth room t.now at result
+        (each_rest (parsers room) (drop at t.now)) }
+{
+    let id = take(alloc, t, at, Want::Ident)?;
+    let colon = pair(take(alloc, t, id.end, Want::Op(COLON)), id.item)?;
+    let over = pair_found(boxed_expr(alloc, t, colon.end, room), colon.item)?;
+    let right = pair(take(alloc, t, over.end, Want::Op(RIGHT_PAREN)), over.tree)?;
+    let (((name, mark), value), end) = right.item;
+    Ok(Found {
+        tree: EachRest {
+            id: name,
+            colon: mark,
+            over: value,
+            right: end,
+        },
+        end: right.end,
+        depth: over.depth,
+    })
+}
+
+/// A `for` over what an expression gives up to its body, behind its type (JLS 14.14.2).
 #[tactic(auto, unfolding(crate::specs::StmtParts::each_head, rf_jexpr::specs::Reads::and_then))]
 fn each_head(
     alloc: Global,
@@ -145,24 +208,21 @@ fn each_head(
     ensures { GivesTree each_head_shown each_head_depth room t.now at result
         (each_head (parsers room) word left (mods_shown mods) (type_shown sort) (drop at t.now)) }
 {
-    let id = take(alloc, t, at, Want::Ident)?;
-    let colon = take(alloc, t, id.end, Want::Op(COLON))?;
-    let over = boxed_expr(alloc, t, colon.end, room)?;
-    let right = take(alloc, t, over.end, Want::Op(RIGHT_PAREN))?;
+    let rest = each_rest(alloc, t, at, room)?;
     let head = EachHead {
         word,
         left,
         mods,
         sort,
-        id: id.item,
-        colon: colon.item,
-        over: over.tree,
-        right: right.item,
+        id: rest.tree.id,
+        colon: rest.tree.colon,
+        over: rest.tree.over,
+        right: rest.tree.right,
     };
     Ok(Found {
         tree: put(alloc, head)?,
-        end: right.end,
-        depth: over.depth,
+        end: rest.end,
+        depth: rest.depth,
     })
 }
 

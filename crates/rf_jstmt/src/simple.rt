@@ -2,16 +2,19 @@ ghost use Rattle.std.specs.Prelude.{◌≤◌, drop, length, option_map, IfOk};
 ghost use Rattle.rf_jtree.specs.NameTrees.{option_depth};
 ghost use Rattle.rf_jtree.specs.declared.operator_names.TheConstants.{COLON};
 ghost use Rattle.rf_jexpr.specs.Descent.{parsers};
-ghost use Rattle.rf_jexpr.specs.Gives.{Gives, GivesTree, IsFound, IsTaken};
-ghost use Rattle.rf_jexpr.specs.Reads.{is_op, is_ident, token, optional, behind};
-ghost use Rattle.rf_jstmt.specs.StmtMade.{boxed_message_shown, message_depth};
+ghost use Rattle.rf_jexpr.specs.Gives.{Gives, GivesTree, IsFound};
+ghost use Rattle.rf_jexpr.specs.Reads.{is_op, token, optional, behind};
+ghost use Rattle.rf_jmake.specs.StmtMade.{boxed_message_shown};
+ghost use Rattle.rf_jstmt.specs.StmtMade.{message_depth};
 ghost use Rattle.rf_jstmt.specs.StmtReads.{empty, value, jumps, jump, return_stmt, throw_stmt, assert_stmt, local_stmt};
 ghost use Rattle.rf_jstmt.specs.StmtGives.{GivesForm};
 
 use crate::heads::{is_statement, optional_expr};
 use crate::locals::local;
-use crate::simple_nodes::{assert_of, empty_of, jump_of, local_of, return_of, throw_of, value_of};
-use rf_jexpr::{Found, ParseErr, Taken, Want, attempt, boxed_expr, deeper, is_at, take};
+use rf_jexpr::{Found, ParseErr, Taken, Want, attempt, boxed_expr, deeper, is_at, take, take_if};
+use rf_jmake::simple_stmts::{
+    assert_of, empty_of, jump_of, local_of, return_of, throw_of, value_of,
+};
 use rf_jtree::keyword_names::{ASSERT, BREAK, CONTINUE, RETURN, THROW};
 use rf_jtree::operator_names::{COLON, SEMICOLON};
 use rf_jtree::{Expr, Stmt, Tok};
@@ -72,25 +75,6 @@ fn jump_word(alloc: Global, t: &[Tok], at: usize) -> Result<Taken<Tok>, ParseErr
     take(alloc, t, at, Want::Key(CONTINUE))
 }
 
-/// A label, if one stands there.
-#[tactic(auto, unfolding(rf_jexpr::specs::Reads::optional, rf_jexpr::specs::Reads::and_then, rf_jexpr::specs::Reads::or_else))]
-fn some_label(alloc: Global, t: &[Tok], at: usize) -> Result<Taken<Option<Tok>>, Memory>
-    requires { at ≤ length t.now }
-    ensures { IfOk result (IsTaken (λ label. label) t.now at
-        (optional (token is_ident) (drop at t.now))) }
-{
-    match attempt(take(alloc, t, at, Want::Ident))? {
-        Some(label) => Ok(Taken {
-            item: Some(label.item),
-            end: label.end,
-        }),
-        None => Ok(Taken {
-            item: None,
-            end: at,
-        }),
-    }
-}
-
 /// `break` or `continue`, with a label or without (JLS 14.15, 14.16).
 #[tactic(auto, unfolding(crate::specs::StmtReads::jump, rf_jexpr::specs::Reads::and_then))]
 pub(crate) fn jump(
@@ -102,7 +86,7 @@ pub(crate) fn jump(
     ensures { GivesForm t.now at room result (λ p s. jump) }
 {
     let word = jump_word(alloc, t, at)?;
-    let label = some_label(alloc, t, word.end)?;
+    let label = take_if(alloc, t, word.end, Want::Ident)?;
     let semi = take(alloc, t, label.end, Want::Op(SEMICOLON))?;
     let tree = jump_of(alloc, word.item, label.item, semi.item)?;
     Ok(Found {
@@ -187,16 +171,8 @@ fn some_message(
         room t.now at (optional (behind (is_op COLON) (parsers room).expr) (drop at t.now))) }
 {
     match attempt(message(alloc, t, at, room))? {
-        Some(found) => Ok(Found {
-            tree: Some(found.tree),
-            end: found.end,
-            depth: found.depth,
-        }),
-        None => Ok(Found {
-            tree: None,
-            end: at,
-            depth: 0,
-        }),
+        Some(found) => Ok(found.there()),
+        None => Ok(Found::left_out(at)),
     }
 }
 

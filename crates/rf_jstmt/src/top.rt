@@ -1,7 +1,7 @@
 ghost use Rattle.std.specs.Prelude.{drop};
 ghost use Rattle.rf_jtree.specs.StmtTrees.{stmt_depth};
 ghost use Rattle.rf_jexpr.specs.Gives.{GivesTree};
-ghost use Rattle.rf_jstmt.specs.StmtMade.{boxed_stmt_shown};
+ghost use Rattle.rf_jmake.specs.StmtMade.{boxed_stmt_shown};
 ghost use Rattle.rf_jstmt.specs.StmtReads.{stmt_parsers, by_word, stmt};
 ghost use Rattle.rf_jstmt.specs.StmtGives.{GivesForm};
 

@@ -1,21 +1,24 @@
 ghost use Rattle.std.specs.Prelude.{◌≡◌, ◌≤◌, ◌<◌, drop, length, IfOk};
 ghost use Rattle.rf_jtree.specs.StmtShown.{catch_shown, catches_tree, last_shown};
 ghost use Rattle.rf_jtree.specs.StmtTrees.{catch_depth, last_depth};
-ghost use Rattle.rf_jtree.specs.declared.keyword_names.TheConstants.{FINAL};
-ghost use Rattle.rf_jexpr.specs.Gives.{Gives, GivesTree, IsFound, IsTaken};
-ghost use Rattle.rf_jexpr.specs.Reads.{is_key, many, optional, token};
-ghost use Rattle.rf_jstmt.specs.StmtGives.{catch_head_shown, catches_found, catches_found_depth, GivesForm};
+ghost use Rattle.rf_jexpr.specs.Gives.{Gives, GivesTree, IsFound};
+ghost use Rattle.rf_jexpr.specs.Reads.{many};
+ghost use Rattle.rf_jmake.specs.StmtMade.{catches_found};
+ghost use Rattle.rf_jstmt.specs.StmtGives.{catch_head_shown, catches_found_depth, GivesForm};
 ghost use Rattle.rf_jstmt.specs.StmtParts.{catch_head};
 ghost use Rattle.rf_jstmt.specs.StmtReads.{stmt_parsers, sync_stmt, catch_part, last_part, last, has_part, try_stmt};
 
 use crate::blocks::body;
-use crate::boxes::put;
 use crate::heads::head_at;
-use crate::nodes::{catch_of, sync_of, try_of};
-use rf_jexpr::{Found, ParseErr, Taken, Want, attempt, deeper, grown, is_at, name, take};
+use rf_jexpr::{
+    Found, ParseErr, Taken, Want, attempt, deeper, grown, is_at, name, pair, pair_found, take,
+    take_if,
+};
+use rf_jmake::put;
+use rf_jmake::stmts::{CatchHead, catch_of, sync_of, try_of};
 use rf_jtree::keyword_names::{CATCH, FINAL, FINALLY, SYNCHRONIZED, TRY};
 use rf_jtree::operator_names::{LEFT_PAREN, RIGHT_PAREN};
-use rf_jtree::{Block, Catch, Name, Stmt, Tok};
+use rf_jtree::{Block, Catch, Stmt, Tok};
 use rf_text::{List, Memory};
 use std::alloc::Global;
 
@@ -42,36 +45,6 @@ pub(crate) fn sync_stmt(
     })
 }
 
-/// `final`, if it stands there.
-#[tactic(auto, unfolding(rf_jexpr::specs::Reads::optional, rf_jexpr::specs::Reads::and_then, rf_jexpr::specs::Reads::or_else))]
-fn fixed(alloc: Global, t: &[Tok], at: usize) -> Result<Taken<Option<Tok>>, Memory>
-    requires { at ≤ length t.now }
-    ensures { IfOk result (IsTaken (λ word. word) t.now at
-        (optional (token (is_key FINAL)) (drop at t.now))) }
-{
-    match attempt(take(alloc, t, at, Want::Key(FINAL)))? {
-        Some(word) => Ok(Taken {
-            item: Some(word.item),
-            end: word.end,
-        }),
-        None => Ok(Taken {
-            item: None,
-            end: at,
-        }),
-    }
-}
-
-/// A catch clause up to its block.
-#[derive(Drop)]
-pub(crate) struct CatchHead {
-    pub word: Tok,
-    pub left: Tok,
-    pub fixed: Option<Tok>,
-    pub name: Name,
-    pub id: Tok,
-    pub right: Tok,
-}
-
 /// `catch (..)` (JLS 14.20).
 #[tactic(auto, unfolding(crate::specs::StmtParts::catch_head, rf_jexpr::specs::Reads::and_then))]
 fn catch_head(alloc: Global, t: &[Tok], at: usize) -> Result<Taken<CatchHead>, ParseErr>
@@ -79,19 +52,20 @@ fn catch_head(alloc: Global, t: &[Tok], at: usize) -> Result<Taken<CatchHead>, P
     ensures forth { IfOk result (λ x. at < x.end) }
 {
     let word = take(alloc, t, at, Want::Key(CATCH))?;
-    let left = take(alloc, t, word.end, Want::Op(LEFT_PAREN))?;
-    let fixed = fixed(alloc, t, left.end)?;
-    let sort = name(alloc, t, fixed.end)?;
-    let id = take(alloc, t, sort.end, Want::Ident)?;
-    let right = take(alloc, t, id.end, Want::Op(RIGHT_PAREN))?;
+    let left = pair(take(alloc, t, word.end, Want::Op(LEFT_PAREN)), word.item)?;
+    let fixed = take_if(alloc, t, left.end, Want::Key(FINAL))?;
+    let sort = pair(name(alloc, t, fixed.end), (left.item, fixed.item))?;
+    let id = pair(take(alloc, t, sort.end, Want::Ident), sort.item)?;
+    let right = pair(take(alloc, t, id.end, Want::Op(RIGHT_PAREN)), id.item)?;
+    let (((((first, open), mark), found), variable), close) = right.item;
     Ok(Taken {
         item: CatchHead {
-            word: word.item,
-            left: left.item,
-            fixed: fixed.item,
-            name: sort.item,
-            id: id.item,
-            right: right.item,
+            word: first,
+            left: open,
+            fixed: mark,
+            name: found,
+            id: variable,
+            right: close,
         },
         end: right.end,
     })
@@ -167,11 +141,7 @@ fn last(
         (last (stmt_parsers room) (drop at t.now)) }
 {
     if !is_at(t, at, Want::Key(FINALLY)) {
-        return Ok(Found {
-            tree: None,
-            end: at,
-            depth: 0,
-        });
+        return Ok(Found::left_out(at));
     }
     last_part(alloc, t, at, room)
 }
@@ -199,13 +169,14 @@ pub(crate) fn try_stmt(
     ensures { GivesForm t.now at room result (λ p s. try_stmt s) }
 {
     let word = take(alloc, t, at, Want::Key(TRY))?;
-    let block = body(alloc, t, word.end, room)?;
+    let block = pair_found(body(alloc, t, word.end, room), word.item)?;
     let parts = catches(alloc, t, block.end, room)?;
     let end = last(alloc, t, parts.end, room)?;
     if !has_part(&parts.tree, &end.tree) {
         return Err(ParseErr::NoTree);
     }
-    let tree = try_of(alloc, word.item, block.tree, parts.tree, end.tree)?;
+    let (word, body) = block.tree;
+    let tree = try_of(alloc, word, body, parts.tree, end.tree)?;
     Ok(Found {
         tree,
         end: end.end,

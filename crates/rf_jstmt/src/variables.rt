@@ -49,16 +49,8 @@ fn some_beginning(
         room t.now at (optional (behind (is_op ASSIGN) (parsers room).init) (drop at t.now))) }
 {
     match attempt(beginning(alloc, t, at, room))? {
-        Some(found) => Ok(Found {
-            tree: Some(found.tree),
-            end: found.end,
-            depth: found.depth,
-        }),
-        None => Ok(Found {
-            tree: None,
-            end: at,
-            depth: 0,
-        }),
+        Some(found) => Ok(found.there()),
+        None => Ok(Found::left_out(at)),
     }
 }
 

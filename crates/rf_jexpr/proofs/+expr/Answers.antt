@@ -4,11 +4,11 @@ use Rattle.std.proofs.Common.{◌≡◌, ◌+◌, ◌-◌, suc, drop, true, fals
 use Rattle.rf_jtree.specs.declared.operator_names.TheConstants.{LEFT_BRACE, PREFIXES}
 use Rattle.rf_jtree.specs.Kinds.{is_op_of}
 use Rattle.rf_jexpr.specs.Descent.{parsers, operator}
-use Rattle.rf_jexpr.specs.Made.{boxed_shown}
-use Rattle.rf_jexpr.specs.PartReads.{exprs_of, inits_of}
+use Rattle.rf_jmake.specs.ExprMade.{boxed_shown}
+use Rattle.rf_jmake.specs.ExprMade.{exprs_of, inits_of}
 use Rattle.rf_jexpr.specs.PrimaryReads.{primary, suffix}
 use Rattle.rf_jexpr.specs.Reads.{and_then, or_else, optional, separated, begins, is_op}
-use Rattle.rf_jexpr.specs.Tails.{operated, suffixed}
+use Rattle.rf_jmake.specs.Tails.{operated, suffixed}
 use Rattle.rf_jexpr.proofs.FormLemmas.{more_exprs-depth, more_inits-depth}
 use Rattle.rf_jexpr.proofs.GrowthLemmas.{first-filling, next-filling, last-filling, first-hand, next-hand, last-hand}
 use Rattle.rf_jexpr.proofs.RoomLemmas.{expr-empty, expr-room, conditional-empty, conditional-room, binary-empty, binary-room, unary-room, init-room}
@@ -75,7 +75,7 @@ unfolding optional separated and_then or_else exprs_of
 parts::exprs-returns-in_default t c =
     let missing = rw c.in_default.is at c.in_ok-first.ensures in
     let nothing = rw missing at c.expr.ensures in
-    (rw nothing refl, omega arith, c.requires, refl, omega arith)
+    rw c.left_out.ensures (rw nothing refl, omega arith, c.requires, refl, omega arith)
 
 pub parts::exprs-returns : goal.parts::exprs-returns
 unfolding optional separated and_then or_else exprs_of
@@ -90,7 +90,7 @@ unfolding optional separated and_then or_else inits_of
 parts::inits-returns-in_default t c =
     let missing = rw c.in_default.is at c.in_ok-first.ensures in
     let nothing = rw missing at c.init.ensures in
-    (rw nothing refl, omega arith, c.requires, refl, omega arith)
+    rw c.left_out.ensures (rw nothing refl, omega arith, c.requires, refl, omega arith)
 
 pub parts::inits-returns : goal.parts::inits-returns
 unfolding optional separated and_then or_else inits_of

@@ -1,7 +1,8 @@
 use Rattle.std.proofs.Common.{◌+◌, ◌-◌, ◌*◌, length, drop}
 use Rattle.rf_jtree.specs.declared.operator_names.TheConstants.{COMMA}
 use Rattle.rf_jexpr.specs.Descent.{parsers, operator}
-use Rattle.rf_jexpr.specs.Made.{boxed_shown, item_shown, item_depth, init_item_shown, init_item_depth, size_shown, size_depth}
+use Rattle.rf_jmake.specs.ExprMade.{boxed_shown, item_shown, init_item_shown, size_shown}
+use Rattle.rf_jexpr.specs.Made.{item_depth, init_item_depth, size_depth}
 use Rattle.rf_jexpr.specs.PartReads.{sized}
 use Rattle.rf_jexpr.specs.PrimaryReads.{primary, suffix}
 use Rattle.rf_jexpr.specs.Reads.{behind, is_op}

@@ -5,7 +5,8 @@ use Rattle.rf_jexpr.specs.Reads.{and_then}
 use Rattle.rf_jexpr.proofs.GrowthLemmas.{first-filling, next-filling, last-filling}
 use Rattle.rf_jstmt.specs.StmtParts.{stmts}
 use Rattle.rf_jstmt.specs.VarReads.{begins_local}
-use Rattle.rf_jstmt.proofs.ListShows.{stmts-shown, stmts-depth, groups-depth, catches-depth}
+use Rattle.rf_jmake.proofs.ListShows.{stmts-shown}
+use Rattle.rf_jstmt.proofs.ListShows.{stmts-depth, groups-depth, catches-depth}
 use Rattle.rf_jstmt.proofs.StmtRooms.{stmt-empty, stmt-room, block_stmt-empty, block_stmt-room, block_stmt-forth}
 use Rattle.rf_jstmt.proofs.+stmt.Goals as goal
 

@@ -1,4 +1,4 @@
-use Rattle.std.proofs.Common.{sym, subst}
+use Rattle.std.proofs.Common.{subst}
 use Rattle.rf_jdecl.specs.Files.{IsFile}
 use Rattle.rf_jdecl.proofs.AnswerLemmas.{file-of}
 use Rattle.rf_jdecl.proofs.units.unit.Goals as goal

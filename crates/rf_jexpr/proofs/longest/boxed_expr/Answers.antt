@@ -2,7 +2,7 @@
 use Rattle.rf_jtree.specs.ExprFits.{ExprFits}
 use Rattle.rf_jtree.specs.ExprTrees.{expr_yield, expr_depth}
 use Rattle.rf_jexpr.specs.Descent.{parsers}
-use Rattle.rf_jexpr.specs.Made.{boxed_shown}
+use Rattle.rf_jmake.specs.ExprMade.{boxed_shown}
 use Rattle.rf_jexpr.proofs.AnswerLemmas.{exprs_longest, longest_found}
 use Rattle.rf_jexpr.proofs.longest.boxed_expr.Goals as goal
 

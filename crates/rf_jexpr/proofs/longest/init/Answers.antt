@@ -2,7 +2,7 @@
 use Rattle.rf_jtree.specs.ExprFits.{InitFits}
 use Rattle.rf_jtree.specs.ExprTrees.{init_yield, init_depth}
 use Rattle.rf_jexpr.specs.Descent.{parsers}
-use Rattle.rf_jexpr.specs.Made.{boxed_init_shown}
+use Rattle.rf_jmake.specs.ExprMade.{boxed_init_shown}
 use Rattle.rf_jexpr.proofs.AnswerLemmas.{inits_longest, longest_found}
 use Rattle.rf_jexpr.proofs.longest.init.Goals as goal
 

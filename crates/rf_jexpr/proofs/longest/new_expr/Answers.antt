@@ -1,11 +1,11 @@
 -- What its reader reads is the longest.
-use Rattle.std.proofs.Common.{◌≡◌, ◌+◌, ◌-◌, None, Err, drop, arith}
+use Rattle.std.proofs.Common.{◌≡◌, ◌+◌, ◌-◌, Err, drop, arith}
 use Rattle.rf_jtree.specs.ExprTrees.{expr_yield, expr_depth}
 use Rattle.rf_jexpr.specs.declared.parse_err.ParseErr.TheVariants.{NoTree}
-use Rattle.rf_jexpr.specs.Descent.{parsers, creations}
+use Rattle.rf_jexpr.specs.Descent.{creations}
 use Rattle.rf_jexpr.specs.Gives.{GivesTree}
 use Rattle.rf_jexpr.specs.Longest.{CreationFits}
-use Rattle.rf_jexpr.specs.Made.{boxed_shown}
+use Rattle.rf_jmake.specs.ExprMade.{boxed_shown}
 use Rattle.rf_jexpr.proofs.AnswerLemmas.{longest_found}
 use Rattle.rf_jexpr.proofs.CreationLemmas.{creations_longest, creations-empty, creations-room}
 use Rattle.rf_jexpr.proofs.longest.new_expr.Goals as goal

@@ -1,6 +1,6 @@
 use Rattle.std.proofs.Common.{◌+◌, ℕ, ap, arith}
 use Rattle.rf_jtree.specs.ExprTrees.{Postfix}
-use Rattle.rf_jexpr.specs.Made.{boxed_shown}
+use Rattle.rf_jmake.specs.ExprMade.{boxed_shown}
 use Rattle.rf_jexpr.proofs.GrowthLemmas.{start-hand, next-hand, last-hand}
 use Rattle.rf_jexpr.proofs.unary.steps.Goals as goal
 

@@ -1,6 +1,6 @@
 use Rattle.std.proofs.Common.{◌+◌, ◌-◌, drop}
 use Rattle.rf_jexpr.specs.Descent.{step}
-use Rattle.rf_jexpr.specs.Made.{boxed_shown}
+use Rattle.rf_jmake.specs.ExprMade.{boxed_shown}
 use Rattle.rf_jexpr.specs.Reads.{chain}
 use Rattle.rf_jexpr.proofs.GrowthLemmas.{IsInHand}
 use Rattle.rf_jexpr.proofs.unary.steps.Given as goal

@@ -11,7 +11,7 @@ pub returns-then-not-begins_expr_at : goal.returns-then-not-begins_expr_at
 unfolding statement_exprs
 returns-then-not-begins_expr_at c =
     let none : begins begins_expr (drop c.args.at c.args.t.now) ≡ false = sym c.begins_expr_at.ensures ∙ c.if-not-begins_expr_at.true in
-    (rw none refl, omega arith, c.requires, refl, omega arith)
+    rw c.left_out.ensures (rw none refl, omega arith, c.requires, refl, omega arith)
 
 pub returns-then-is_none : goal.returns-then-is_none
 unfolding statement_exprs

@@ -1,5 +1,0 @@
-use Rattle.rf_jtree.proofs.ExprShows.{expr_shown-Lit}
-use Rattle.rf_jexpr.proofs.forms.literal_of.Goals as goal
-
-pub returns : goal.returns
-returns c = rw expr_shown-Lit at c.boxed.ensures

@@ -1,5 +1,0 @@
-use Rattle.rf_jtree.proofs.ExprShows.{expr_shown-New}
-use Rattle.rf_jexpr.proofs.forms.object_of.Goals as goal
-
-pub returns : goal.returns
-returns c = rw (expr_shown-New, c.in_ok-name.ensures) at c.boxed.ensures

@@ -1,5 +1,0 @@
-use Rattle.rf_jtree.proofs.ExprShows.{expr_shown-Postfix}
-use Rattle.rf_jexpr.proofs.forms.postfix_of.Goals as goal
-
-pub returns : goal.returns
-returns c = rw expr_shown-Postfix at c.boxed.ensures

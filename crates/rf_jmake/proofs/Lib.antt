@@ -1,0 +1,3 @@
+pub mod CalledLemmas
+pub mod FormLemmas
+pub mod ListShows

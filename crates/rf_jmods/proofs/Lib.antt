@@ -1,0 +1,5 @@
+pub mod ExactMods
+pub mod ModLemmas
+pub mod ModTestLemmas
+pub mod SoundMods
+pub mod Steps

@@ -1,0 +1,2 @@
+pub mod ModReads
+pub mod ModTests

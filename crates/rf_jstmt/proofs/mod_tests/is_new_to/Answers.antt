@@ -1,9 +1,0 @@
-use Rattle.std.proofs.Common.{not, sym, ◌∙◌}
-use Rattle.std.proofs.lemmas.List.Folds.{list_all-map}
-use Rattle.rf_jtree.specs.NameFits.{is_same_mod}
-use Rattle.rf_jtree.specs.NameShown.{mod_shown}
-use Rattle.rf_jtree.specs.NameTrees.{ModTree}
-use Rattle.rf_jstmt.proofs.mod_tests.is_new_to.Goals as goal
-
-pub returns : goal.returns
-returns c = c.differs_from_each.ensures ∙ sym (list_all-map (λ (other : ModTree). not (is_same_mod (mod_shown c.args.one.now) other)) mod_shown c.args.others.now)

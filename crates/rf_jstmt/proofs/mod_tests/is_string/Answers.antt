@@ -1,5 +1,0 @@
-use Rattle.rf_jstmt.proofs.ModLemmas.{str_exact}
-use Rattle.rf_jstmt.proofs.mod_tests.is_string.Goals as goal
-
-pub returns : goal.returns
-returns c = str_exact _ _ c.is_str.ensures

@@ -1,6 +1,0 @@
-use Rattle.std.proofs.Common.{refl}
-use Rattle.rf_jtree.proofs.StmtShows.{block_shown-roll}
-use Rattle.rf_jstmt.proofs.nodes.braces_of.Goals as goal
-
-pub returns : goal.returns
-returns c = rw block_shown-roll refl

@@ -1,5 +1,0 @@
-use Rattle.rf_jtree.proofs.StmtShows.{stmt_shown-Do}
-use Rattle.rf_jstmt.proofs.nodes.do_of.Goals as goal
-
-pub returns : goal.returns
-returns c = rw stmt_shown-Do at c.boxed.ensures

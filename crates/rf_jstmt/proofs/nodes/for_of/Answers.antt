@@ -1,5 +1,0 @@
-use Rattle.rf_jtree.proofs.StmtShows.{stmt_shown-For}
-use Rattle.rf_jstmt.proofs.nodes.for_of.Goals as goal
-
-pub returns : goal.returns
-returns c = rw stmt_shown-For at c.boxed.ensures

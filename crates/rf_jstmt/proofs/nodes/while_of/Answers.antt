@@ -1,5 +1,0 @@
-use Rattle.rf_jtree.proofs.StmtShows.{stmt_shown-While}
-use Rattle.rf_jstmt.proofs.nodes.while_of.Goals as goal
-
-pub returns : goal.returns
-returns c = rw stmt_shown-While at c.boxed.ensures

@@ -1,5 +1,0 @@
-use Rattle.rf_jtree.proofs.StmtShows.{stmt_shown-Assert}
-use Rattle.rf_jstmt.proofs.simple_nodes.assert_of.Goals as goal
-
-pub returns : goal.returns
-returns c = rw stmt_shown-Assert at c.boxed.ensures

@@ -1,5 +1,0 @@
-use Rattle.rf_jtree.proofs.StmtShows.{stmt_shown-Empty}
-use Rattle.rf_jstmt.proofs.simple_nodes.empty_of.Goals as goal
-
-pub returns : goal.returns
-returns c = rw stmt_shown-Empty at c.boxed.ensures

@@ -1,5 +1,0 @@
-use Rattle.rf_jtree.proofs.StmtShows.{stmt_shown-Local}
-use Rattle.rf_jstmt.proofs.simple_nodes.local_of.Goals as goal
-
-pub returns : goal.returns
-returns c = rw (stmt_shown-Local, c.in_ok-local.ensures) at c.boxed.ensures

@@ -1,5 +1,0 @@
-use Rattle.rf_jtree.proofs.StmtShows.{stmt_shown-Throw}
-use Rattle.rf_jstmt.proofs.simple_nodes.throw_of.Goals as goal
-
-pub returns : goal.returns
-returns c = rw stmt_shown-Throw at c.boxed.ensures
