@@ -1,2 +1,6 @@
 pub mod Ranges
 pub mod Words
+pub mod Removing
+pub mod Rows
+pub mod Steps
+pub mod Filling

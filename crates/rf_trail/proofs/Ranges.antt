@@ -1,9 +1,11 @@
 -- Lists of the numbers below a bound that pass a test: membership, one more, one less, the first, how many.
-use Rattle.std.proofs.Common.{◌≡◌, ◌⊎◌, ℕ, zero, suc, ◌+◌, ◌<◌, ◌≤◌, Bool, true, false, cond, not, ◌&&◌, ◌||◌, eqb, ltb, leb, List, [], ◌∷◌, ◌++◌, length, map, filter, find, Option, Some, None, refl, sym, ap, ap₂, ◌∙◌, subst, inl, inr, arith, eq-eqb, ne_eqb, eqb-true, lt-ltb, le-ltb, le-leb, length-append}
+use Rattle.std.proofs.Common.{◌≡◌, ℕ, zero, suc, ◌+◌, ◌<◌, ◌≤◌, Bool, true, false, cond, ◌&&◌, ◌||◌, eqb, ltb, leb, List, [], ◌∷◌, length, filter, find, Some, None, refl, sym, ap, ap₂, ◌∙◌, subst, inl, inr, arith, eq-eqb, ne_eqb, eqb-true, lt-ltb, le-ltb, le-leb}
 use Rattle.std.specs.List.{range_with_len}
-use Rattle.std.proofs.lemmas.Bool.{cases_lt, cases_eq, cases_Bool, both_ways, cond-true, cond-false, or_cases, or_from, or_left, or_right, false_from_ne_true, lt-leb}
-use Rattle.rf_form.specs.Alive.{is_among}
-use Rattle.rf_form.specs.Sums.{bit}
+use Rattle.std.proofs.lemmas.Bool.{cases_lt, cases_eq, cases_Bool, both_ways, cond-true, cond-false, or_cases, or_left, or_right, lt-leb}
+use Rattle.rf_form.specs.Alive.{is_among, Counts}
+use Rattle.rf_form.specs.Families.{Family}
+use Rattle.rf_form.specs.Sums.{bit, sum_below}
+use Rattle.rf_form.proofs.Counts.{counts_from}
 use Rattle.rf_trail.specs.Bits.{inserted}
 
 -- the numbers from a on
@@ -145,3 +147,27 @@ numbers_last f a (suc n) = let i = numbers_last f (a + 1) n in let e = ap (λ (k
 pub count_more : (f : ℕ → Bool) (n : ℕ) → length (numbers f 0 (n + 1)) ≡ length (numbers f 0 n) + bit (f n)
 count_more f n = let e = ap (λ (k : ℕ). bit (f k)) (omega_front n) in
     ap (λ (k : ℕ). length (numbers f 0 k)) (omega_suc n) ∙ (numbers_last f 0 n ∙ ap (λ (k : ℕ). length (numbers f 0 n) + k) e)
+
+pub count_is : (f : ℕ → Bool) (n : ℕ) → length (numbers f 0 n) ≡ sum_below (λ v. bit (f v)) n
+count_is f zero = refl
+count_is f (suc n) = ap (λ (k : ℕ). length (numbers f 0 k)) (sym (omega_suc n)) ∙ (count_more f n ∙ ap (λ (k : ℕ). k + bit (f n)) (count_is f n))
+
+-- a set counts as the sum over all places
+pub set_counts : (xs : List ℕ) (n count : ℕ) → xs ≡ filter (λ v. is_among v xs) (range_with_len 0 n) → count ≡ length xs → Counts (λ _ v. is_among v xs) 0 count
+set_counts xs n count shape e = counts_from (λ _ v. is_among v xs) 0 n count
+    (λ v h. let p = among_passes (λ u. is_among u xs) 0 n v (sym (ap (is_among v) shape) ∙ h) in omega arith)
+    (e ∙ (ap (length {A = ℕ}) shape ∙ count_is (λ v. is_among v xs) n))
+
+sum_same : (f g : ℕ → ℕ) (n : ℕ) → ((k : ℕ) → f k ≡ g k) → sum_below f n ≡ sum_below g n
+sum_same f g zero h = refl
+sum_same f g (suc n) h = let i = sum_same f g n h in let j = h n in omega arith
+
+pub row_counts : (δ : Family) (x count : ℕ) (xs : List ℕ) → ((v : ℕ) → is_among v xs ≡ δ x v) → Counts (λ _ v. is_among v xs) 0 count → Counts δ x count
+row_counts δ x count xs is counts n below = counts n (λ v h. below v (sym (is v) ∙ h)) ∙ sum_same (λ v. bit (is_among v xs)) (λ v. bit (δ x v)) n (λ v. ap bit (is v))
+
+pub nothing_counts : (δ : Family) (x : ℕ) → ((v : ℕ) → δ x v ≡ false) → Counts δ x 0
+nothing_counts δ x none n below = sym (sum_same (λ v. bit (δ x v)) (λ v. 0) n (λ v. ap bit (none v)) ∙ zeros n)
+  where
+    zeros : (n : ℕ) → sum_below (λ v. 0) n ≡ 0
+    zeros zero = refl
+    zeros (suc n) = let i = zeros n in omega arith

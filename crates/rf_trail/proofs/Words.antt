@@ -1,9 +1,9 @@
 -- Bits of words as places of lists.
-use Rattle.std.proofs.Common.{◌≡◌, ◌⊎◌, ℕ, zero, suc, ◌+◌, ◌*◌, ◌/◌, ◌%◌, ◌<◌, ◌≤◌, Bool, true, false, cond, not, ◌&&◌, ◌||◌, eqb, List, [], ◌∷◌, length, filter, get_or, set, replicate, refl, sym, ap, ap₂, ◌∙◌, subst, inl, inr, arith, eq-eqb, ne_eqb, eqb-true, get_or-set_same, get_or-set_other, length-set, bit_or, bit_and, ◌^◌, w64}
+use Rattle.std.proofs.Common.{◌≡◌, ℕ, zero, suc, ◌*◌, ◌/◌, ◌%◌, ◌<◌, ◌≤◌, Bool, true, false, not, ◌&&◌, ◌||◌, eqb, List, [], ◌∷◌, length, filter, get_or, set, replicate, refl, sym, ap, ap₂, ◌∙◌, subst, inl, inr, arith, eq-eqb, ne_eqb, eqb-true, get_or-set_same, get_or-set_other, length-set, bit_or, bit_and, ◌^◌, w64}
 use mir.Val.{bits}
 use Rattle.std.specs.List.{range_with_len}
-use Rattle.std.specs.Int.{bit_at, bit_not}
-use Rattle.std.proofs.lemmas.Bool.{cases_lt, cases_eq, cases_Bool, both_ways, or_right, false_from_ne_true}
+use Rattle.std.specs.Int.{bit_not}
+use Rattle.std.proofs.lemmas.Bool.{cases_lt, cases_eq, both_ways, or_right, false_from_ne_true}
 use Rattle.std.proofs.lemmas.Nat.Bits.{bit_at-zero, bit_at_set_same, bit_at_set_other, bit_at_clear_same, bit_at_clear_other}
 use Rattle.std.proofs.lemmas.List.Elements.{filter_agree}
 use Rattle.rf_form.specs.Alive.{is_among}

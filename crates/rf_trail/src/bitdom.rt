@@ -1,6 +1,6 @@
 ghost use Rattle.std.specs.Prelude.{◌≡◌, ◌<◌, ◌≤◌, ◌*◌, ◌+◌, [], true, false, not, eqb, leb, filter, find, length};
 ghost use Rattle.std.specs.List.{range_with_len};
-ghost use Rattle.rf_form.specs.Alive.{is_among};
+ghost use Rattle.rf_form.specs.Alive.{is_among, Counts};
 ghost use Rattle.rf_form.specs.Sums.{bit};
 ghost use Rattle.rf_trail.specs.Bits.{inserted};
 
@@ -61,7 +61,7 @@ impl<const W: usize> BitDom<W> {
     }
 
     /// The list is that of the places below 64 * W that are in the set.
-    fn shape(&self)
+    pub(crate) fn shape(&self)
         ensures { self.now ≡ filter (λ v. is_among v self.now) (range_with_len 0 (64 * W)) }
     {
         let _words = &self.words;
@@ -86,6 +86,15 @@ impl<const W: usize> BitDom<W> {
             count += self.count_at(v as u16);
         }
         count
+    }
+
+    /// How many places there are, as a sum over all places.
+    pub(crate) fn count(&self) -> u32
+        requires { W ≤ 1024 }
+        ensures { Counts (λ _ v. is_among v self.now) 0 result }
+    {
+        self.shape();
+        self.size()
     }
 
     /// The least place from there on.

@@ -2,8 +2,11 @@
 #![tactic(auto)]
 
 mod bitdom;
+mod sets;
 mod store;
+mod trails;
 mod word;
 
 pub use bitdom::BitDom;
 pub use store::{Mark, Store};
+pub use trails::Trail;

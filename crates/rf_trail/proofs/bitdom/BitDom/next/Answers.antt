@@ -1,4 +1,4 @@
-use Rattle.std.proofs.Common.{ℕ, ◌*◌, List, leb, find, sym, ap, ◌∙◌, arith}
+use Rattle.std.proofs.Common.{ℕ, ◌*◌, leb, find, sym, ap, ◌∙◌, arith}
 use Rattle.rf_form.specs.Alive.{is_among}
 use Rattle.rf_trail.proofs.Ranges.{find_some, find_none}
 use Rattle.rf_trail.proofs.bitdom.BitDom.next.Goals as goal
