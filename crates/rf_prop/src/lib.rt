@@ -1,0 +1,13 @@
+//! Closing: the places with which a constraint is false are taken away, one by one, until none is left.
+#![tactic(auto)]
+
+mod closing;
+mod finders;
+mod nets;
+mod steps;
+mod turns;
+
+pub use closing::close_in;
+pub use nets::Net;
+pub use steps::{Outcome, Step, Turn};
+pub use turns::turn;
