@@ -143,7 +143,7 @@ cut_all s δ ε (r ∷ rs) fit c p part closed = cut_all s (without δ r.x r.v) 
     (cut_keeps (problem s) (formulas_lawful s.vals s.formulas) δ p r.x r.v (fit_within s δ fit) c.0.alive
     (c.0.fails.place, c.0.fails.inside, c.0.fails.fails) part closed) closed
 
-among_end : (y : ℕ) (xs : List ℕ) (x : ℕ) → is_among y (xs ++ x ∷ []) ≡ true → (is_among y xs ≡ true) ⊎ (y ≡ x)
+pub among_end : (y : ℕ) (xs : List ℕ) (x : ℕ) → is_among y (xs ++ x ∷ []) ≡ true → (is_among y xs ≡ true) ⊎ (y ≡ x)
 among_end y [] x h = elim (or_cases (eqb y x) false h) [ inl e ↦ inr (eqb-true y x e) | inr f ↦ absurd (both_ways false refl f) ]
 among_end y (u ∷ us) x h = elim (or_cases (eqb y u) (is_among y (us ++ x ∷ [])) h) [
   | inl e ↦ inl (or_left (eqb y u) (is_among y us) e)

@@ -20,12 +20,13 @@ use Rattle.rf_prop.proofs.CutLemmas.{fit_within, fit_part, cut_part, cut_filled,
 use Rattle.std.proofs.lemmas.List.{map-append, length-map, get_or-append-add, drop_more}
 
 -- nothing is cut at the variables that the constraint mentions, so nothing is cut
-pub quiet_from : (s : System) (δ : Family) (place : ℕ) (vars : List ℕ) → ((x : ℕ) → mentions (formula_at s.formulas place) x ≡ true → is_among x vars ≡ true)
+pub quiet_from : (s : System) (δ : Family) (place : ℕ) (vars : List ℕ) → IsFit s.vals δ
+    → ((x : ℕ) → x < length s.vals → mentions (formula_at s.formulas place) x ≡ true → is_among x vars ≡ true)
     → (IsFalse s δ place → ⊥) → ((x v : ℕ) → is_among x vars ≡ true → δ x v ≡ true → IsFalse s (at δ x v) place → ⊥) → Quiet s δ place
-quiet_from s δ place vars all holds none = record {
+quiet_from s δ place vars fit all holds none = record {
   holds = holds;
   each = λ x v alive fails. elim (cases_Bool (mentions (formula_at s.formulas place) x)) [
-    | inl t ↦ none x v (all x t) alive fails
+    | inl t ↦ none x v (all x (fit_within s δ fit x v alive).0 t) alive fails
     | inr f ↦ holds (is_local s.vals (at δ x v) δ (formula_at s.formulas place) false
         (λ y m w. at_other δ x v y w (λ e. both_ways (mentions (formula_at s.formulas place) x) f
         (subst (λ (z : ℕ). mentions (formula_at s.formulas place) z ≡ true) (sym e) m))) fails)

@@ -2,3 +2,4 @@ pub mod Cuts
 pub mod Turns
 pub mod Weights
 pub mod Queues
+pub mod Wiring

@@ -32,6 +32,6 @@ AllReady s δ log done = (place : ℕ) → place < length s.formulas → Ready s
 
 -- the variables of each constraint, and the constraints that each variable wakes
 pub record Wired (s : System) (vars watchers : List (List ℕ)) : Type 0 where
-  pub mentioned : (place x : ℕ) → place < length s.formulas → Mentions s place x → is_among x (row vars place) ≡ true
+  pub mentioned : (place x : ℕ) → place < length s.formulas → x < length s.vals → Mentions s place x → is_among x (row vars place) ≡ true
   pub watched : (place x : ℕ) → place < length s.formulas → x < length s.vals → Mentions s place x → is_among place (row watchers x) ≡ true
   pub inside : (place x : ℕ) → is_among place (row watchers x) ≡ true → place < length s.formulas

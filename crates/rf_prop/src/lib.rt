@@ -6,6 +6,7 @@ mod finders;
 mod nets;
 mod steps;
 mod turns;
+mod wiring;
 
 pub use closing::close_in;
 pub use nets::Net;

@@ -55,7 +55,8 @@ pub fn turn<C: Constraints, S: Store>(
     log: &mut List<Step>,
 ) -> Result<Turn, Memory>
     requires inside { place < length (C.system all.now).formulas }
-    requires vars { (x : ℕ) → mentions (formula_at (C.system all.now).formulas place) x ≡ true →
+    requires vars { (x : ℕ) → x < length (C.system all.now).vals →
+        mentions (formula_at (C.system all.now).formulas place) x ≡ true →
         is_among x vars.now ≡ true }
     requires fit { IsFit (C.system all.now).vals (S.family store.old) }
     ensures first { S.first store.new ≡ S.first store.old }

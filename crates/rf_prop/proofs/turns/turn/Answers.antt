@@ -5,7 +5,7 @@ use Rattle.rf_prop.proofs.turns.turn.Goals as goal
 
 pub returns-in-None-clause-turned : goal.returns-in-None-clause-turned
 returns-in-None-clause-turned g c = quiet_from (g.C.Constraints.system c.args.all.now) (g.S.Alive.family c.loop-place.store) c.args.place
-    c.args.vars.now c.requires.vars c.if-is_false.ensures c.in-None.ensures
+    c.args.vars.now c.loop-place.invariant.fit c.requires.vars c.if-is_false.ensures c.in-None.ensures
 
 pub loop-place-preserved : goal.loop-place-preserved
 loop-place-preserved g c = let old = c.args.store.now in let mid = c.loop-place.store in let new = c.take_away.new.store in record {
