@@ -35,3 +35,8 @@ pub record Wired (s : System) (vars watchers : List (List ℕ)) : Type 0 where
   pub mentioned : (place x : ℕ) → place < length s.formulas → x < length s.vals → Mentions s place x → is_among x (row vars place) ≡ true
   pub watched : (place x : ℕ) → place < length s.formulas → x < length s.vals → Mentions s place x → is_among place (row watchers x) ≡ true
   pub inside : (place x : ℕ) → is_among place (row watchers x) ≡ true → place < length s.formulas
+
+-- the constraint at that place is one of the system's, and these are its variables
+pub record Serves (s : System) (place : ℕ) (vars : List ℕ) : Type 0 where
+  pub inside : place < length s.formulas
+  pub mentioned : (x : ℕ) → x < length s.vals → Mentions s place x → is_among x vars ≡ true

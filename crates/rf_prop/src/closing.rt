@@ -12,6 +12,7 @@ use crate::turns::turn;
 use rf_cons::Constraints;
 use rf_text::{List, Memory};
 use rf_trail::Store;
+use std::alloc::Global;
 
 /// A turn of each constraint, up to the first that is false: its number.
 fn start<C: Constraints, S: Store>(
@@ -105,4 +106,24 @@ pub fn close_in<C: Constraints, S: Store>(
         done += 1;
     }
     Ok(Outcome::Closed)
+}
+
+/// Closes the domains: leaves the greatest closed part, or tells a constraint that is false where there is none.
+pub fn close<C: Constraints, S: Store>(
+    alloc: Global,
+    all: &C,
+    store: &mut S,
+    log: &mut List<Step>,
+) -> Result<Outcome, Memory>
+    requires fit { IsFit (C.system all.now).vals (S.family store.old) }
+    requires filled { Filled (length (C.system all.now).vals) (S.family store.old) }
+    ensures first { S.first store.new ≡ S.first store.old }
+    ensures logged { Logged (C.system all.now)
+        (S.family store.old) (S.removed store.old) log.old
+        (S.family store.new) (S.removed store.new) log.new }
+    ensures closes { IfOk result
+        (Closes (C.system all.now) (S.family store.old) (S.family store.new)) }
+{
+    let net = Net::new(alloc, all)?;
+    close_in(all, &net, store, log)
 }

@@ -4,11 +4,13 @@
 mod closing;
 mod finders;
 mod nets;
+mod propagators;
 mod steps;
 mod turns;
 mod wiring;
 
-pub use closing::close_in;
+pub use closing::{close, close_in};
 pub use nets::Net;
+pub use propagators::{Plain, Propagator};
 pub use steps::{Outcome, Step, Turn};
 pub use turns::turn;
