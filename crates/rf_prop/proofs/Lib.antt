@@ -1,3 +1,4 @@
 pub mod CutLemmas
 pub mod Quiets
 pub mod Wires
+pub mod Fillings

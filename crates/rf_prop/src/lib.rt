@@ -2,6 +2,7 @@
 #![tactic(auto)]
 
 mod closing;
+mod filling;
 mod finders;
 mod nets;
 mod propagators;
@@ -10,6 +11,7 @@ mod turns;
 mod wiring;
 
 pub use closing::{close, close_in};
+pub use filling::are_filled;
 pub use nets::Net;
 pub use propagators::{Plain, Propagator};
 pub use steps::{Outcome, Step, Turn};

@@ -40,6 +40,7 @@ impl<const W: usize> Trail<W> {
     pub fn new(alloc: Global, d: &Doms) -> Result<Trail<W>, Memory>
         requires limit { W ≤ 1024 }
         requires sets { AreSets (64 * W) d.now.alive }
+        ensures family { IfOk result (λ trail. ⟦<Trail<W> as Alive>⟧.family trail ≡ among d.now.alive) }
         ensures first { IfOk result (λ trail. ⟦<Trail<W> as Store>⟧.first trail ≡ among d.now.alive) }
         ensures removed { IfOk result (λ trail. ⟦<Trail<W> as Store>⟧.removed trail ≡ []) }
     {
