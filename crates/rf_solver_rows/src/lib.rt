@@ -4,6 +4,11 @@
 #[cfg(test)]
 mod bits;
 #[cfg(test)]
+mod closing;
+#[cfg(test)]
 mod formulas;
 #[cfg(test)]
 mod kleene;
+mod listed_forms;
+
+pub use listed_forms::Listed;
