@@ -1,0 +1,3 @@
+pub mod Tuples
+pub mod Columns
+pub mod Rows

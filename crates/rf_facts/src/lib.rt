@@ -1,0 +1,5 @@
+//! Lists of facts, one for each query, with an index for each argument.
+#![tactic(auto)]
+
+mod columns;
+mod rows;
