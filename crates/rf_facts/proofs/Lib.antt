@@ -1,2 +1,4 @@
+pub mod Chains
 pub mod Indexes
 pub mod Pieces
+pub mod Tabled

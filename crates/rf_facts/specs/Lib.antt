@@ -1,3 +1,4 @@
 pub mod Tuples
 pub mod Columns
 pub mod Rows
+pub mod Tables
