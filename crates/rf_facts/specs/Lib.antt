@@ -1,4 +1,6 @@
 pub mod Tuples
+pub mod Bands
 pub mod Columns
+pub mod Queries
 pub mod Rows
 pub mod Tables

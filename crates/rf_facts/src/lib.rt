@@ -2,7 +2,15 @@
 #![tactic(auto)]
 
 mod asked;
+mod bands;
 mod columns;
+mod facts;
+mod queries;
 mod rows;
 mod table;
+mod tuples;
 mod walks;
+
+pub use bands::Interval;
+pub use facts::Facts;
+pub use tuples::Tuple;

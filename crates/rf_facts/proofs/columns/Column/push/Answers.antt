@@ -1,4 +1,4 @@
-use Rattle.std.proofs.Common.{arith, ap, ◌∙◌, ◌++◌, ◌∷◌, []}
+use Rattle.std.proofs.Common.{ap, ◌∙◌, ◌++◌, ◌∷◌, []}
 use Rattle.rf_facts.proofs.Indexes.{pushed}
 use Rattle.rf_facts.proofs.columns.Column.push.Goals as goal
 
