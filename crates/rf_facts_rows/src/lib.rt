@@ -1,0 +1,5 @@
+//! Facts against lists that are written down.
+#![tactic(auto)]
+
+#[cfg(test)]
+mod lists;
