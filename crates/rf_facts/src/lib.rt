@@ -5,6 +5,7 @@ mod asked;
 mod bands;
 mod columns;
 mod facts;
+mod properties;
 mod queries;
 mod rows;
 mod table;
@@ -13,4 +14,5 @@ mod walks;
 
 pub use bands::Interval;
 pub use facts::Facts;
+pub use properties::{PropRow, PropTable};
 pub use tuples::Tuple;
