@@ -1,0 +1,13 @@
+pub mod Elements
+pub mod Bindings
+pub mod Pairs
+pub mod Values
+pub mod Directs
+pub mod Programs
+pub mod Counts
+pub mod Insts
+pub mod Stands
+pub mod Conditions
+pub mod Agreeing
+pub mod Opening
+pub mod Instances
