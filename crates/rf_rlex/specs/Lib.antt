@@ -1,0 +1,4 @@
+pub mod Classes
+pub mod Fronts
+pub mod Lexed
+pub mod Words
