@@ -1,0 +1,4 @@
+pub mod DeclLengths
+pub mod ExprLengths
+pub mod Lengths
+pub mod StmtLengths

@@ -1,0 +1,11 @@
+pub mod DeclMarks
+pub mod DeclWith
+pub mod ExprMarks
+pub mod ExprWith
+pub mod MarkWords
+pub mod NameMarks
+pub mod Rewritings
+pub mod Rewritten
+pub mod Scopes
+pub mod StmtMarks
+pub mod StmtWith
