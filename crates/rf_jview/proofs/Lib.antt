@@ -1,4 +1,12 @@
+pub mod Alike
+pub mod DeclAlike
 pub mod DeclLengths
+pub mod DeclTokens
+pub mod ExprAlike
 pub mod ExprLengths
+pub mod ExprTokens
 pub mod Lengths
+pub mod StmtAlike
 pub mod StmtLengths
+pub mod StmtTokens
+pub mod Tokens
