@@ -1,12 +1,16 @@
 pub mod Alike
 pub mod DeclAlike
+pub mod DeclFitsWith
 pub mod DeclLengths
 pub mod DeclTokens
+pub mod Depths
 pub mod ExprAlike
+pub mod ExprFitsWith
 pub mod ExprLengths
 pub mod ExprTokens
 pub mod Lengths
 pub mod StmtAlike
+pub mod StmtFitsWith
 pub mod StmtLengths
 pub mod StmtTokens
 pub mod Tokens

@@ -1,6 +1,7 @@
 -- How a tree is rewritten where elements and references stand: identifiers get other texts, and types' names other packages.
-use Rattle.std.specs.Prelude.{ℕ, suc, List, [], ◌∷◌, Option, Some, None}
+use Rattle.std.specs.Prelude.{◌≢◌, ℕ, suc, List, [], ◌∷◌, Option, Some, None}
 use Rattle.rf_jtree.specs.declared.tokens.Tok.{Tok}
+use Rattle.rf_jtree.specs.NameFits.{NameFits}
 use Rattle.rf_jtree.specs.NameTrees.{ManyTree, NameTree, TypeBaseTree, Prim, Named, TypeUseTree, base_yield, tok_yield}
 
 -- the text that an identifier gets, by its number among the tokens; and the name that a type's name becomes, by the number
@@ -8,6 +9,11 @@ use Rattle.rf_jtree.specs.NameTrees.{ManyTree, NameTree, TypeBaseTree, Prim, Nam
 pub record Rewriting : Type 0 where
   pub text : ℕ → Tok → List ℕ
   pub written : ℕ → NameTree → NameTree
+
+-- What is written in place of a name is a name, and has a package where that one had one.
+pub record WritesNames (g : Rewriting) : Type 0 where
+  pub names : (n : ℕ) (name : NameTree) → NameFits name → NameFits (g.written n name)
+  pub packages : (n : ℕ) (name : NameTree) → name.ids.rest ≢ [] → (g.written n name).ids.rest ≢ []
 
 -- the number of the next token, where these have numbers from n on
 abbrev pub behind : ℕ → List Tok → ℕ
