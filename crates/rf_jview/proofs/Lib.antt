@@ -14,3 +14,4 @@ pub mod StmtFitsWith
 pub mod StmtLengths
 pub mod StmtTokens
 pub mod Tokens
+pub mod Walks

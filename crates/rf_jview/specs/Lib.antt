@@ -1,3 +1,4 @@
+pub mod Accounts
 pub mod DeclMarks
 pub mod DeclWith
 pub mod ExprMarks
