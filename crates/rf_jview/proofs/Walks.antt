@@ -4,10 +4,11 @@ use Rattle.std.proofs.Math.Seq.{set-append_seam}
 use Rattle.rf_jtree.specs.declared.tokens.Tok.{Tok}
 use Rattle.rf_jview.specs.declared.accounts.Account.{Account}
 use Rattle.rf_jview.specs.declared.accounts.Start.{Start}
+use Rattle.rf_jview.specs.declared.marks.Invocation.{Invocation}
 use Rattle.rf_jview.specs.declared.marks.Mark.{Mark}
 use Rattle.rf_jview.specs.declared.marks.Mark.TheVariants as m
 use Rattle.rf_jview.specs.declared.marks.Opening.{Opening}
-use Rattle.rf_jview.specs.Accounts.{noted, entered, start_of, opened, pointed}
+use Rattle.rf_jview.specs.Accounts.{back_of, invoke_mark, noted, entered, start_of, opened, pointed}
 use Rattle.rf_jview.specs.MarkWords.{steady, counted, plains, opens}
 use Rattle.rf_jview.proofs.Alike.{steady-append}
 
@@ -34,18 +35,21 @@ noted-noted account some more =
     backs : account.back + counted some + counted more ≡ account.back + counted (some ++ more)
     backs = omega (arith, counts)
 
-pub back-noted : (account : Account) (marks : List Mark) → (noted account marks).back ≡ account.back + counted marks
-unfolding noted
+pub back-noted : (account : Account) (marks : List Mark) → back_of (noted account marks) ≡ back_of account + counted marks
+unfolding noted back_of
 back-noted account marks = refl
 
-pub back-entered : (account : Account) → (entered account).back ≡ 1
-unfolding entered
+pub back-entered : (account : Account) → back_of (entered account) ≡ 1
+unfolding entered back_of
 back-entered account = refl
 
-pub invoked_back : (account : Account) (back : ℕ) (marks : List Mark)
-  → back + ((noted account (m.Plain ∷ marks)).back - account.back) ≡ back + 1 + counted marks
-unfolding noted
-invoked_back account back marks = omega arith
+pub invoked-noted : (invocation : Invocation) (back : ℕ) (account : Account) (marks : List Mark)
+  → invoke_mark invocation back (back_of account) (noted account (m.Plain ∷ marks)) ≡ m.Invokes invocation (back + 1 + counted marks)
+unfolding noted back_of invoke_mark
+invoked-noted invocation back account marks = ap (m.Invokes invocation) widths
+  where
+    widths : back + (account.back + counted (m.Plain ∷ marks) - account.back) ≡ back + 1 + counted marks
+    widths = omega arith
 
 pub begun : (account : Account) (marks : List Mark) → (start_of account).at < length (noted (entered account) marks).list
 unfolding noted start_of entered
@@ -88,7 +92,7 @@ plains-append (tok ∷ some) more = ap (λ marks. m.Plain ∷ marks) (plains-app
 
 pub ruleset plain_walks = (noted-noted, noted-nil, append_assoc, append-nil, plains-append)
 pub ruleset walks = (noted-noted, noted-nil, append_assoc, append-nil)
-pub ruleset calls = (noted-noted, noted-nil, append_assoc, append-nil, invoked_back)
+pub ruleset calls = (noted-noted, noted-nil, append_assoc, append-nil, invoked-noted)
 pub ruleset blocks = (noted-noted, noted-nil, append_assoc, append-nil, back-noted, back-entered, begun, opened-noted)
 pub ruleset variables = (noted-noted, noted-nil, append_assoc, append-nil, back-noted)
 pub ruleset points = (noted-noted, noted-nil, append_assoc, append-nil, awaited, pointed-noted)

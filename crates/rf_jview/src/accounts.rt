@@ -1,9 +1,9 @@
-#![tactic(auto, unfolding(crate::specs::Accounts::noted, crate::specs::Accounts::entered, crate::specs::Accounts::start_of, crate::specs::Accounts::opened, crate::specs::Accounts::pointed))]
+#![tactic(auto, unfolding(crate::specs::Accounts::back_of, crate::specs::Accounts::invoke_mark, crate::specs::Accounts::noted, crate::specs::Accounts::entered, crate::specs::Accounts::start_of, crate::specs::Accounts::opened, crate::specs::Accounts::pointed))]
 
 ghost use Rattle.std.specs.Prelude.{◌≡◌, ◌+◌, ◌<◌, ◌∷◌, [], ◌-◌, length, IfOk, OnOk};
 ghost use Rattle.rf_jview.specs.declared.marks.Mark.TheVariants as m;
 ghost use Rattle.rf_jview.specs.MarkWords.{counted};
-ghost use Rattle.rf_jview.specs.Accounts.{noted, entered, start_of, opened, pointed};
+ghost use Rattle.rf_jview.specs.Accounts.{back_of, invoke_mark, noted, entered, start_of, opened, pointed};
 
 use crate::{Invocation, Mark, Opening};
 use rf_text::{List, Memory};
@@ -54,6 +54,22 @@ pub fn plain(account: &mut Account) -> Result<(), Memory>
     note(account, Mark::Plain)
 }
 
+/// Notes a variable of the block that is open.
+pub fn local(account: &mut Account) -> Result<(), Memory>
+    ensures { OnOk result
+        (account.new ≡ noted account.old (m.Local (back_of account.old) ∷ [])) }
+{
+    let back = account.back;
+    note(account, Mark::Local(back))
+}
+
+/// How far behind the beginning of its block the next token stands.
+pub fn here(account: &Account) -> u32
+    ensures { result ≡ back_of account.now }
+{
+    account.back
+}
+
 /// Notes the `)` of an invocation, with `(` so far behind its identifier, and `from` where that `(` stands.
 pub fn invoke(
     account: &mut Account,
@@ -61,8 +77,8 @@ pub fn invoke(
     back: u32,
     from: u32,
 ) -> Result<(), Memory>
-    ensures { OnOk result (account.new ≡ noted account.old
-        (m.Invokes invocation (back + (account.old.back - from)) ∷ [])) }
+    ensures { OnOk result
+        (account.new ≡ noted account.old (invoke_mark invocation back from account.old ∷ [])) }
 {
     let width = added(back, account.back.saturating_sub(from))?;
     note(account, Mark::Invokes(invocation, width))

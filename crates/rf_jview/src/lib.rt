@@ -2,6 +2,7 @@
 #![tactic(auto)]
 
 mod accounts;
+mod exprs;
 mod marks;
 mod mods;
 mod names;
