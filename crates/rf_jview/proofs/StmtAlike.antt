@@ -35,14 +35,14 @@ more_locals_alike : (g : Rewriting) (n back : ℕ) (rest : List (Tok × VarTree)
 more_locals_alike g n back [] = alike []
 more_locals_alike g n back (item ∷ rest) =
     let next = behind (suc n) (var_yield item.1) in
-    plain (local_then (back + 1) (thens (λ back. more_locals_marks back (rest_with var_yield (var_with g) next rest)) (λ back. more_locals_marks back rest)
-      (back + 2) (beginning_alike g (suc n) item.1) (λ back. more_locals_alike g (behind (suc n) (var_yield item.1)) back rest)))
+    plain (thens (λ back. more_locals_marks back (rest_with var_yield (var_with g) next rest)) (λ back. more_locals_marks back rest)
+      (back + 1) (local_then (back + 1) (beginning_alike g (suc n) item.1)) (λ back. more_locals_alike g (behind (suc n) (var_yield item.1)) back rest))
 
 locals_alike : (g : Rewriting) (n back : ℕ) (vars : ManyTree VarTree) → Alike (locals_marks back (vars_with g n vars)) (locals_marks back vars)
 locals_alike g n back vars =
     let next = behind n (var_yield vars.first) in
-    local_then back (thens (λ back. more_locals_marks back (rest_with var_yield (var_with g) next vars.rest)) (λ back. more_locals_marks back vars.rest)
-      (back + 1) (beginning_alike g n vars.first) (λ back. more_locals_alike g next back vars.rest))
+    thens (λ back. more_locals_marks back (rest_with var_yield (var_with g) next vars.rest)) (λ back. more_locals_marks back vars.rest)
+      back (local_then back (beginning_alike g n vars.first)) (λ back. more_locals_alike g next back vars.rest)
 
 pub local_alike : (g : Rewriting) (n back : ℕ) (local : LocalTree) → Alike (local_marks back (local_with g n local)) (local_marks back local)
 local_alike g n back local =
@@ -83,7 +83,7 @@ mutual
   stmt_alike g n back (Block block) = block_alike g n o.Block block
   stmt_alike g n back (Empty semi) = plain (alike [])
   stmt_alike g n back (StmtTree.Local local semi) = both (local_alike g n back local) (alike (m.Plain ∷ []))
-  stmt_alike g n back (Label id colon body) = plain (plain (stmt_alike g (suc (suc n)) (back + 2) body))
+  stmt_alike g n back (Label id colon body) = plain (plain (stmt_alike g (suc (suc n)) (back + 1 + 1) body))
   stmt_alike g n back (Value value semi) = both (expr_alike g n value) (plain (alike []))
   stmt_alike g n back (If word left test right then other) = thens (λ back. stmt_marks back (stmt_with g (suc (behind (suc (suc n)) (expr_yield test))) then) ++ other_marks (after back (stmt_marks back (stmt_with g (suc (behind (suc (suc n)) (expr_yield test))) then))) (other_with g (behind (suc (behind (suc (suc n)) (expr_yield test))) (stmt_yield then)) other))
         (λ back. stmt_marks back then ++ other_marks (after back (stmt_marks back then)) other) back (head_alike g (suc (suc n)) test)

@@ -14,7 +14,7 @@ use Rattle.rf_jview.specs.declared.marks.Opening.TheVariants as o
 use Rattle.rf_jview.specs.ExprMarks.{expr_marks, exprs_marks, init_marks}
 use Rattle.rf_jview.specs.MarkWords.{counted, after, plains}
 use Rattle.rf_jview.specs.NameMarks.{type_name_marks, type_marks, mods_marks, option_marks, behind_marks}
-use Rattle.rf_jview.specs.StmtMarks.{beginning_marks, more_locals_marks, locals_marks, local_marks, first_marks, head_marks, for_head_marks, each_head_marks, catch_head_marks}
+use Rattle.rf_jview.specs.StmtMarks.{beginning_marks, local_var_marks, more_locals_marks, locals_marks, local_marks, first_marks, head_marks, for_head_marks, each_head_marks, catch_head_marks}
 use Rattle.rf_jview.specs.StmtMarks.{stmt_marks, block_marks, stmts_marks, other_marks, group_marks, groups_marks, catch_marks, catches_marks, last_marks}
 use Rattle.rf_jview.proofs.Lengths.{AsMany, none, one, both, regroup, each, optional, tname_as_many, type_as_many}
 use Rattle.rf_jview.proofs.ExprLengths.{expr_as_many, exprs_as_many, init_as_many}
@@ -26,10 +26,10 @@ beginning_as_many var =
 
 pub more_locals_as_many : (back : ℕ) (rest : List (Tok × VarTree)) → AsMany (more_locals_marks back rest) (flat_map (λ item. item.0 ∷ var_yield item.1) rest)
 more_locals_as_many back [] = none
-more_locals_as_many back (item ∷ rest) = one (one (both (beginning_as_many item.1) (more_locals_as_many (after (back + 2) (beginning_marks item.1)) rest)))
+more_locals_as_many back (item ∷ rest) = one (both (one (beginning_as_many item.1)) (more_locals_as_many (after (back + 1) (local_var_marks (back + 1) item.1)) rest))
 
 pub locals_as_many : (back : ℕ) (vars : ManyTree VarTree) → AsMany (locals_marks back vars) (many_yield var_yield vars)
-locals_as_many back vars = one (both (beginning_as_many vars.first) (more_locals_as_many (after (back + 1) (beginning_marks vars.first)) vars.rest))
+locals_as_many back vars = both (one (beginning_as_many vars.first)) (more_locals_as_many (after back (local_var_marks back vars.first)) vars.rest)
 
 pub local_as_many : (back : ℕ) (local : LocalTree) → AsMany (local_marks back local) (local_yield local)
 local_as_many back local =
@@ -76,7 +76,7 @@ mutual
   stmt_as_many back (Block block) = block_as_many o.Block block
   stmt_as_many back (Empty semi) = one none
   stmt_as_many back (StmtTree.Local local semi) = both (local_as_many back local) (one none)
-  stmt_as_many back (Label id colon body) = one (one (stmt_as_many (back + 2) body))
+  stmt_as_many back (Label id colon body) = one (one (stmt_as_many (back + 1 + 1) body))
   stmt_as_many back (Value value semi) = both (expr_as_many value) (one none)
   stmt_as_many back (If word left test right then other) = head_as_many word left right test (both (stmt_as_many (after back (head_marks test)) then) (other_as_many (after (after back (head_marks test)) (stmt_marks (after back (head_marks test)) then)) other))
   stmt_as_many back (While word left test right body) = head_as_many word left right test (stmt_as_many (after back (head_marks test)) body)

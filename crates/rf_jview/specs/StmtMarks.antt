@@ -18,14 +18,16 @@ abbrev pub beginning_marks : VarTree → List Mark
 beginning_marks var = dims_marks var.dims ++ option_marks (behind_marks init_marks) var.init
 
 -- A local declaration declares each of its variables in the block around it (JLS 14.4).
+abbrev pub local_var_marks : ℕ → VarTree → List Mark
+local_var_marks back var = m.Local back ∷ beginning_marks var
+
 abbrev pub more_locals_marks : ℕ → List (Tok × VarTree) → List Mark
 more_locals_marks back [] = []
 more_locals_marks back (item ∷ rest) =
-    m.Plain ∷ m.Local (back + 1) ∷ (beginning_marks item.1 ++ more_locals_marks (after (back + 2) (beginning_marks item.1)) rest)
+    m.Plain ∷ (local_var_marks (back + 1) item.1 ++ more_locals_marks (after (back + 1) (local_var_marks (back + 1) item.1)) rest)
 
 abbrev pub locals_marks : ℕ → ManyTree VarTree → List Mark
-locals_marks back vars =
-    m.Local back ∷ (beginning_marks vars.first ++ more_locals_marks (after (back + 1) (beginning_marks vars.first)) vars.rest)
+locals_marks back vars = local_var_marks back vars.first ++ more_locals_marks (after back (local_var_marks back vars.first)) vars.rest
 
 abbrev pub local_marks : ℕ → LocalTree → List Mark
 local_marks back local =
@@ -45,9 +47,12 @@ for_head_marks first test last =
     m.Plain ∷ (first_marks 2 first ++ m.Plain ∷ (option_marks expr_marks test ++ m.Plain ∷ (exprs_marks last ++ m.Plain ∷ [])))
 
 -- `for (T x : over` (JLS 14.14.2). The block of the variable begins behind that, with `)`.
+abbrev pub over_marks : ExprTree → List Mark
+over_marks over = m.Ahead (2 + counted (expr_marks over)) ∷ m.Plain ∷ expr_marks over
+
 abbrev pub each_head_marks : List ModTree → TypeUseTree → ExprTree → List Mark
 each_head_marks mods sort over =
-    m.Plain ∷ m.Plain ∷ (mods_marks mods ++ (type_marks sort ++ m.Ahead (2 + counted (expr_marks over)) ∷ m.Plain ∷ expr_marks over))
+    m.Plain ∷ m.Plain ∷ (mods_marks mods ++ (type_marks sort ++ over_marks over))
 
 -- `catch (T x)`, the block of whose variable begins behind it (JLS 14.20)
 abbrev pub catch_head_marks : Option Tok → List Mark → List Mark
@@ -60,7 +65,7 @@ abbrev mutual
   stmt_marks back (Block block) = block_marks o.Block block
   stmt_marks back (Empty semi) = m.Plain ∷ []
   stmt_marks back (StmtTree.Local local semi) = local_marks back local ++ m.Plain ∷ []
-  stmt_marks back (Label id colon body) = m.Plain ∷ m.Plain ∷ stmt_marks (back + 2) body
+  stmt_marks back (Label id colon body) = m.Plain ∷ m.Plain ∷ stmt_marks (back + 1 + 1) body
   stmt_marks back (Value value semi) = expr_marks value ++ m.Plain ∷ []
   stmt_marks back (If word left test right then other) =
       head_marks test ++ (stmt_marks (after back (head_marks test)) then
