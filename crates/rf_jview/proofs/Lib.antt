@@ -9,6 +9,7 @@ pub mod ExprFitsWith
 pub mod ExprLengths
 pub mod ExprTokens
 pub mod Lengths
+pub mod NamingLemmas
 pub mod StmtAlike
 pub mod StmtFitsWith
 pub mod StmtLengths

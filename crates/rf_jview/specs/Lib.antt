@@ -5,6 +5,7 @@ pub mod ExprMarks
 pub mod ExprWith
 pub mod MarkWords
 pub mod NameMarks
+pub mod Namings
 pub mod Rewritings
 pub mod Rewritten
 pub mod Scopes

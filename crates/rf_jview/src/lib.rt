@@ -3,6 +3,7 @@
 
 pub mod accounts;
 pub mod exprs;
+pub mod laws;
 mod marks;
 pub mod mods;
 pub mod names;
