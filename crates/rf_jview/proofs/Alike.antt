@@ -39,7 +39,7 @@ steady-append ((m.Ahead ahead) ∷ marks) more = ap (λ rest. (m.Ahead ahead) �
 pub both : {news olds more_news more_olds : List Mark} → Alike news olds → Alike more_news more_olds → Alike (news ++ more_news) (olds ++ more_olds)
 both {news} {olds} {more_news} {more_olds} one two = record {
   equal = steady-append news more_news
-    ∙ (ap (λ marks. marks ++ steady more_news) one.equal ∙ (ap (λ marks. steady olds ++ marks) two.equal ∙ sym (steady-append olds more_olds)))
+      ∙ (ap (λ marks. marks ++ steady more_news) one.equal ∙ (ap (λ marks. steady olds ++ marks) two.equal ∙ sym (steady-append olds more_olds)));
 }
 
 pub plain : {news olds : List Mark} → Alike news olds → Alike (m.Plain ∷ news) (m.Plain ∷ olds)
@@ -47,13 +47,13 @@ plain same = record { equal = ap (λ marks. m.Plain ∷ marks) same.equal }
 
 -- marks that are told how far off their block begins, behind others
 pub thens : {news olds : List Mark} (more_news more_olds : ℕ → List Mark) (back : ℕ) → Alike news olds → ((back : ℕ) → Alike (more_news back) (more_olds back))
-  → Alike (news ++ more_news (after back news)) (olds ++ more_olds (after back olds))
+    → Alike (news ++ more_news (after back news)) (olds ++ more_olds (after back olds))
 thens {news} {olds} more_news more_olds back same rest = record {
-  equal = ap (λ width. steady (news ++ more_news (back + width))) (ap length same.equal) ∙ (both same (rest (after back olds))).equal
+  equal = ap (λ width. steady (news ++ more_news (back + width))) (ap length same.equal) ∙ (both same (rest (after back olds))).equal;
 }
 
 pub invoked : {news olds : List Mark} (invocation : Invocation) (back : ℕ) → Alike news olds
-  → Alike (news ++ m.Invokes invocation (back + 1 + counted news) ∷ []) (olds ++ m.Invokes invocation (back + 1 + counted olds) ∷ [])
+    → Alike (news ++ m.Invokes invocation (back + 1 + counted news) ∷ []) (olds ++ m.Invokes invocation (back + 1 + counted olds) ∷ [])
 invoked {news} {olds} invocation back same =
     thens (λ width. m.Invokes invocation width ∷ []) (λ width. m.Invokes invocation width ∷ []) (back + 1) same (λ width. alike (m.Invokes invocation width ∷ []))
 
@@ -62,27 +62,27 @@ opened_alike opening same = record { equal = ap (λ marks. m.Opens opening (leng
 
 -- parts that may be left out, parts behind a token, and lists of parts
 pub optional_alike : {A : Type 0} (marks : A → List Mark) (change : ℕ → A → A) → ((n : ℕ) (part : A) → Alike (marks (change n part)) (marks part))
-  → (n : ℕ) (part : Option A) → Alike (option_marks marks (option_with change n part)) (option_marks marks part)
+    → (n : ℕ) (part : Option A) → Alike (option_marks marks (option_with change n part)) (option_marks marks part)
 optional_alike marks change each n None = alike []
 optional_alike marks change each n (Some part) = each n part
 
 pub behind_alike : {A : Type 0} (marks : A → List Mark) (change : ℕ → A → A) → ((n : ℕ) (part : A) → Alike (marks (change n part)) (marks part))
-  → (n : ℕ) (part : Tok × A) → Alike (behind_marks marks (behind_with change n part)) (behind_marks marks part)
+    → (n : ℕ) (part : Tok × A) → Alike (behind_marks marks (behind_with change n part)) (behind_marks marks part)
 behind_alike marks change each n part = plain (each (suc n) part.1)
 
 pub list_alike : {A : Type 0} (yield : A → List Tok) (marks : A → List Mark) (change : ℕ → A → A) → ((n : ℕ) (part : A) → Alike (marks (change n part)) (marks part))
-  → (n : ℕ) (parts : List A) → Alike (flat_map marks (list_with yield change n parts)) (flat_map marks parts)
+    → (n : ℕ) (parts : List A) → Alike (flat_map marks (list_with yield change n parts)) (flat_map marks parts)
 list_alike yield marks change each n [] = alike []
 list_alike yield marks change each n (part ∷ parts) = both (each n part) (list_alike yield marks change each (behind n (yield part)) parts)
 
 pub rest_alike : {A : Type 0} (yield : A → List Tok) (marks : A → List Mark) (change : ℕ → A → A) → ((n : ℕ) (part : A) → Alike (marks (change n part)) (marks part))
-  → (n : ℕ) (rest : List (Tok × A)) → Alike (flat_map (behind_marks marks) (rest_with yield change n rest)) (flat_map (behind_marks marks) rest)
+    → (n : ℕ) (rest : List (Tok × A)) → Alike (flat_map (behind_marks marks) (rest_with yield change n rest)) (flat_map (behind_marks marks) rest)
 rest_alike yield marks change each n [] = alike []
 rest_alike yield marks change each n (item ∷ rest) =
     plain (both (each (suc n) item.1) (rest_alike yield marks change each (behind (suc n) (yield item.1)) rest))
 
 pub many_alike : {A : Type 0} (yield : A → List Tok) (marks : A → List Mark) (change : ℕ → A → A) → ((n : ℕ) (part : A) → Alike (marks (change n part)) (marks part))
-  → (n : ℕ) (many : ManyTree A) → Alike (many_marks marks (many_with yield change n many)) (many_marks marks many)
+    → (n : ℕ) (many : ManyTree A) → Alike (many_marks marks (many_with yield change n many)) (many_marks marks many)
 many_alike yield marks change each n many = both (each n many.first) (rest_alike yield marks change each (behind n (yield many.first)) many.rest)
 
 -- names and types: a type's name is one mark, whatever its package is

@@ -1,25 +1,25 @@
 -- The marks of a file stay where it is rewritten.
-use Rattle.std.proofs.Common.{◌≡◌, ℕ, suc, ◌+◌, List, [], ◌∷◌, ◌++◌, length, Option, Some, None, Bool, true, false, refl, ap, ◌∙◌, sym, ◌&&◌, ◌||◌, not}
-use Rattle.std.specs.List.{flat_map, list_any}
+use Rattle.std.proofs.Common.{◌≡◌, ℕ, suc, ◌+◌, List, [], ◌∷◌, ◌++◌, length, Option, Some, None, refl, ap, ◌∙◌, sym, ◌&&◌, ◌||◌, not}
+use Rattle.std.specs.List.{list_any}
 use Rattle.rf_jtree.specs.declared.keyword_names.TheConstants.{CLASS}
 use Rattle.rf_jtree.specs.declared.tokens.Tok.{Tok}
 use Rattle.rf_jtree.specs.DeclTrees.{ParamTree, ParamsTree, CtorCallTree, RetTree, Void, Value, BodyTree, Block, MemberTree, Init, Ctor, Method, Field, TypeDeclTree, ImportTree, UnitTree}
-use Rattle.rf_jtree.specs.DeclTrees.{names_yield, param_yield, params_yield, ctor_call_yield, ret_yield, member_yield, import_yield, package_yield}
+use Rattle.rf_jtree.specs.DeclTrees.{param_yield, member_yield, import_yield, package_yield}
 use Rattle.rf_jtree.specs.Kinds.{is_key_of}
-use Rattle.rf_jtree.specs.NameTrees.{ManyTree, NameTree, name_yield, type_yield, mods_yield, option_yield, tok_yield, pair_yield, many_yield}
-use Rattle.rf_jtree.specs.StmtTrees.{VarTree, StmtsTree, stmts_yield, var_yield}
+use Rattle.rf_jtree.specs.NameTrees.{ManyTree, NameTree, name_yield, mods_yield, option_yield, tok_yield, pair_yield}
+use Rattle.rf_jtree.specs.StmtTrees.{VarTree, StmtsTree, var_yield}
 use Rattle.rf_jview.specs.declared.marks.Invocation.TheVariants as i
 use Rattle.rf_jview.specs.declared.marks.Mark.{Mark}
 use Rattle.rf_jview.specs.declared.marks.Mark.TheVariants as m
 use Rattle.rf_jview.specs.declared.marks.Opening.TheVariants as o
-use Rattle.rf_jview.specs.DeclMarks.{names_marks, param_marks, more_params_marks, many_params_marks, params_marks, ctor_call_marks, ctor_opening, ctor_body_marks, ret_marks, body_marks, callable_marks}
-use Rattle.rf_jview.specs.DeclMarks.{more_fields_marks, fields_marks, member_marks, members_marks, is_ctor, default_ctor_mark, brace_mark, decl_head_marks, decl_marks, import_name_marks, import_marks, unit_marks}
+use Rattle.rf_jview.specs.DeclMarks.{names_marks, param_marks, more_params_marks, many_params_marks, ctor_call_marks, ctor_opening, ctor_body_marks, ret_marks, body_marks, callable_marks}
+use Rattle.rf_jview.specs.DeclMarks.{more_fields_marks, fields_marks, member_marks, is_ctor, default_ctor_mark, brace_mark, decl_marks, import_name_marks, import_marks, unit_marks}
 use Rattle.rf_jview.specs.DeclWith.{names_with, param_with, params_with, ctor_call_with, ret_with, body_with, member_with, members_with, decl_with, import_name_with, import_with, unit_with}
 use Rattle.rf_jview.specs.MarkWords.{steady, after, plains}
-use Rattle.rf_jview.specs.NameMarks.{type_name_marks, type_marks, dims_marks, mods_marks, option_marks, behind_marks, many_marks}
-use Rattle.rf_jview.specs.Rewritings.{Rewriting, behind, option_with, behind_with, list_with, rest_with, many_with, type_with}
+use Rattle.rf_jview.specs.NameMarks.{type_name_marks, dims_marks, mods_marks, option_marks, behind_marks, many_marks}
+use Rattle.rf_jview.specs.Rewritings.{Rewriting, behind, option_with, behind_with, rest_with, many_with}
 use Rattle.rf_jview.specs.StmtWith.{var_with, vars_with, stmts_with}
-use Rattle.rf_jview.specs.StmtMarks.{beginning_marks, stmts_marks}
+use Rattle.rf_jview.specs.StmtMarks.{stmts_marks}
 use Rattle.rf_jview.proofs.Alike.{Alike, alike, both, plain, thens, opened_alike, optional_alike, behind_alike, list_alike, many_alike, tname_alike, type_alike}
 use Rattle.rf_jview.proofs.ExprAlike.{args_alike}
 use Rattle.rf_jview.proofs.StmtAlike.{beginning_alike, block_alike, stmts_alike}
@@ -27,7 +27,7 @@ use Rattle.rf_jview.proofs.StmtAlike.{beginning_alike, block_alike, stmts_alike}
 names_alike : (g : Rewriting) (n : ℕ) (names : Option (Tok × ManyTree NameTree)) → Alike (names_marks (names_with g n names)) (names_marks names)
 names_alike g n names =
     optional_alike (behind_marks (many_marks type_name_marks)) (behind_with (many_with name_yield g.written))
-      (behind_alike (many_marks type_name_marks) (many_with name_yield g.written) (many_alike name_yield type_name_marks g.written (tname_alike g))) n names
+    (behind_alike (many_marks type_name_marks) (many_with name_yield g.written) (many_alike name_yield type_name_marks g.written (tname_alike g))) n names
 
 -- methods and constructors
 local_then : {news olds : List Mark} (back : ℕ) → Alike news olds → Alike (m.Local back ∷ news) (m.Local back ∷ olds)
@@ -36,28 +36,28 @@ local_then back same = record { equal = ap (λ marks. m.Local back ∷ marks) sa
 param_alike : (g : Rewriting) (n back : ℕ) (param : ParamTree) → Alike (param_marks back (param_with g n param)) (param_marks back param)
 param_alike g n back param =
     both (alike (mods_marks param.mods))
-      (thens (λ back. m.Local back ∷ dims_marks param.dims) (λ back. m.Local back ∷ dims_marks param.dims) (after back (mods_marks param.mods))
-        (type_alike g (behind n (mods_yield param.mods)) param.sort) (λ back. alike (m.Local back ∷ dims_marks param.dims)))
+    (thens (λ back. m.Local back ∷ dims_marks param.dims) (λ back. m.Local back ∷ dims_marks param.dims) (after back (mods_marks param.mods))
+    (type_alike g (behind n (mods_yield param.mods)) param.sort) (λ back. alike (m.Local back ∷ dims_marks param.dims)))
 
 more_params_alike : (g : Rewriting) (n back : ℕ) (rest : List (Tok × ParamTree))
-  → Alike (more_params_marks back (rest_with param_yield (param_with g) n rest)) (more_params_marks back rest)
+    → Alike (more_params_marks back (rest_with param_yield (param_with g) n rest)) (more_params_marks back rest)
 more_params_alike g n back [] = alike []
 more_params_alike g n back (item ∷ rest) =
     plain (thens (λ back. more_params_marks back (rest_with param_yield (param_with g) (behind (suc n) (param_yield item.1)) rest)) (λ back. more_params_marks back rest)
-      (back + 1) (param_alike g (suc n) (back + 1) item.1) (λ back. more_params_alike g (behind (suc n) (param_yield item.1)) back rest))
+    (back + 1) (param_alike g (suc n) (back + 1) item.1) (λ back. more_params_alike g (behind (suc n) (param_yield item.1)) back rest))
 
 many_params_alike : (g : Rewriting) (back n : ℕ) (params : ManyTree ParamTree)
-  → Alike (many_params_marks back (many_with param_yield (param_with g) n params)) (many_params_marks back params)
+    → Alike (many_params_marks back (many_with param_yield (param_with g) n params)) (many_params_marks back params)
 many_params_alike g back n params =
     let next = behind n (param_yield params.first) in
     thens (λ back. more_params_marks back (rest_with param_yield (param_with g) next params.rest)) (λ back. more_params_marks back params.rest)
-      back (param_alike g n back params.first) (λ back. more_params_alike g next back params.rest)
+    back (param_alike g n back params.first) (λ back. more_params_alike g next back params.rest)
 
 callable_alike : (g : Rewriting) (n : ℕ) (params : ParamsTree) (n2 : ℕ) (throws : Option (Tok × ManyTree NameTree)) {news olds : List Mark} → Alike news olds
-  → Alike (callable_marks (params_with g n params).list (names_with g n2 throws) news) (callable_marks params.list throws olds)
+    → Alike (callable_marks (params_with g n params).list (names_with g n2 throws) news) (callable_marks params.list throws olds)
 callable_alike g n params n2 throws same =
     opened_alike o.Block (both (optional_alike (many_params_marks 1) (many_with param_yield (param_with g)) (many_params_alike g 1) (suc n) params.list)
-      (plain (both (names_alike g n2 throws) same)))
+    (plain (both (names_alike g n2 throws) same)))
 
 ctor_call_alike : (g : Rewriting) (n : ℕ) (call : CtorCallTree) → Alike (ctor_call_marks (ctor_call_with g n call)) (ctor_call_marks call)
 ctor_call_alike g n call = plain (both (args_alike g (suc n) i.Ctor 1 call.args) (alike (m.Plain ∷ [])))
@@ -70,14 +70,14 @@ reopened : {news olds : List Mark} → Alike news olds → {more : List Mark} �
 reopened same e = record { equal = ap steady (sym e) ∙ same.equal }
 
 ctor_body_alike : (g : Rewriting) (n : ℕ) (call : Option CtorCallTree) (n2 : ℕ) (body : StmtsTree)
-  → Alike (ctor_body_marks (option_with (ctor_call_with g) n call) (stmts_with g n2 body)) (ctor_body_marks call body)
+    → Alike (ctor_body_marks (option_with (ctor_call_with g) n call) (stmts_with g n2 body)) (ctor_body_marks call body)
 ctor_body_alike g n call n2 body =
     let rest = thens (λ back. stmts_marks back (stmts_with g n2 body) ++ m.Plain ∷ []) (λ back. stmts_marks back body ++ m.Plain ∷ []) 1
-          (optional_alike ctor_call_marks (ctor_call_with g) (ctor_call_alike g) n call) (λ back. both (stmts_alike g n2 back body) (alike (m.Plain ∷ []))) in
+    (optional_alike ctor_call_marks (ctor_call_with g) (ctor_call_alike g) n call) (λ back. both (stmts_alike g n2 back body) (alike (m.Plain ∷ []))) in
     reopened (opened_alike (ctor_opening call) rest)
-      (ap (λ opening. m.Opens opening (length (steady (option_marks ctor_call_marks (option_with (ctor_call_with g) n call) ++ (stmts_marks (after 1 (option_marks ctor_call_marks (option_with (ctor_call_with g) n call))) (stmts_with g n2 body) ++ m.Plain ∷ []))))
-        ∷ (option_marks ctor_call_marks (option_with (ctor_call_with g) n call) ++ (stmts_marks (after 1 (option_marks ctor_call_marks (option_with (ctor_call_with g) n call))) (stmts_with g n2 body) ++ m.Plain ∷ [])))
-        (sym (ctor_opening-with g n call)))
+    (ap (λ opening. m.Opens opening (length (steady (option_marks ctor_call_marks (option_with (ctor_call_with g) n call) ++ (stmts_marks (after 1 (option_marks ctor_call_marks (option_with (ctor_call_with g) n call))) (stmts_with g n2 body) ++ m.Plain ∷ []))))
+    ∷ (option_marks ctor_call_marks (option_with (ctor_call_with g) n call) ++ (stmts_marks (after 1 (option_marks ctor_call_marks (option_with (ctor_call_with g) n call))) (stmts_with g n2 body) ++ m.Plain ∷ [])))
+    (sym (ctor_opening-with g n call)))
 
 ret_alike : (g : Rewriting) (n : ℕ) (ret : RetTree) → Alike (ret_marks (ret_with g n ret)) (ret_marks ret)
 ret_alike g n (Void word) = alike (m.Plain ∷ [])
@@ -98,7 +98,7 @@ more_fields_alike g n (item ∷ rest) =
 
 fields_alike : (g : Rewriting) (n : ℕ) (vars : ManyTree VarTree) → Alike (fields_marks (vars_with g n vars)) (fields_marks vars)
 fields_alike g n vars = record {
-  equal = ap (λ marks. m.Field ∷ marks) (both (beginning_alike g n vars.first) (more_fields_alike g (behind n (var_yield vars.first)) vars.rest)).equal
+  equal = ap (λ marks. m.Field ∷ marks) (both (beginning_alike g n vars.first) (more_fields_alike g (behind n (var_yield vars.first)) vars.rest)).equal;
 }
 
 -- members
@@ -130,11 +130,11 @@ has_ctor-with : (g : Rewriting) (n : ℕ) (members : List MemberTree) → list_a
 has_ctor-with g n [] = refl
 has_ctor-with g n (member ∷ members) =
     ap (λ b. b || list_any is_ctor (members_with g (behind n (member_yield member)) members)) (is_ctor-with g n member)
-      ∙ ap (λ b. is_ctor member || b) (has_ctor-with g (behind n (member_yield member)) members)
+    ∙ ap (λ b. is_ctor member || b) (has_ctor-with g (behind n (member_yield member)) members)
 
 brace_alike : (g : Rewriting) (n : ℕ) (word : Tok) (members : List MemberTree) → Alike (brace_mark word (members_with g n members) ∷ []) (brace_mark word members ∷ [])
 brace_alike g n word members = record {
-  equal = ap (λ has. steady (default_ctor_mark (is_key_of (CLASS ∷ []) word && not has) ∷ [])) (has_ctor-with g n members)
+  equal = ap (λ has. steady (default_ctor_mark (is_key_of (CLASS ∷ []) word && not has) ∷ [])) (has_ctor-with g n members);
 }
 
 type_then : {news olds : List Mark} → Alike news olds → Alike (m.Plain ∷ m.Type ∷ news) (m.Plain ∷ m.Type ∷ olds)
@@ -143,7 +143,7 @@ type_then same = record { equal = ap (λ marks. m.Plain ∷ m.Type ∷ marks) sa
 decl_alike : (g : Rewriting) (n : ℕ) (decl : TypeDeclTree) → Alike (decl_marks (decl_with g n decl)) (decl_marks decl)
 decl_alike g n decl =
     both (both (alike (mods_marks decl.mods)) (type_then (both (names_alike g _ decl.extends) (both (names_alike g _ decl.implements) (brace_alike g _ decl.word decl.members)))))
-      (both (list_alike member_yield member_marks (member_with g) (member_alike g) _ decl.members) (alike (m.Plain ∷ [])))
+    (both (list_alike member_yield member_marks (member_with g) (member_alike g) _ decl.members) (alike (m.Plain ∷ [])))
 
 import_name_alike : (g : Rewriting) (n : ℕ) (name : NameTree) (star : Option (Tok × Tok)) → Alike (import_name_marks (import_name_with g n name star) star) (import_name_marks name star)
 import_name_alike g n name None = tname_alike g n name
@@ -156,4 +156,4 @@ import_alike g n import =
 pub unit_alike : (g : Rewriting) (n : ℕ) (unit : UnitTree) → Alike (unit_marks (unit_with g n unit)) (unit_marks unit)
 unit_alike g n unit =
     both (alike (plains (option_yield package_yield unit.package)))
-      (both (list_alike import_yield import_marks (import_with g) (import_alike g) _ unit.imports) (both (decl_alike g _ unit.decl) (alike (plains unit.semis))))
+    (both (list_alike import_yield import_marks (import_with g) (import_alike g) _ unit.imports) (both (decl_alike g _ unit.decl) (alike (plains unit.semis))))

@@ -1,24 +1,24 @@
 -- A file that fits does so where it is rewritten.
-use Rattle.std.proofs.Common.{◌≡◌, ◌≢◌, ℕ, suc, List, [], ◌∷◌, ◌⊎◌, inl, inr, Option, Some, None, IfSome, IsSome, IsNone, refl, sym, ap, ◌∙◌}
+use Rattle.std.proofs.Common.{◌≡◌, ℕ, suc, List, [], ◌∷◌, inl, inr, Option, Some, None, IfSome, IsSome, IsNone, refl, ap, ◌∙◌}
 use Rattle.rf_jtree.specs.declared.tokens.Tok.{Tok}
 use Rattle.rf_jtree.specs.declared.words.Kw.{Kw}
 use Rattle.rf_jtree.specs.declared.operator_names.TheConstants.{COMMA}
-use Rattle.rf_jtree.specs.DeclFits.{NamesFit, ParamFits, ParamsFit, CtorCallFits, RetFits, BodyFits, IsCallable, MemberFits, is_semi, ClassTakes, InterfaceTakes, IsInterfaceMethod, EachBegins, IsInterfaceField, IsOneName, IsClass, IsInterface, DeclFits, NamesPackage, ImportFits, UnitFits}
+use Rattle.rf_jtree.specs.DeclFits.{NamesFit, ParamFits, ParamsFit, CtorCallFits, RetFits, BodyFits, IsCallable, MemberFits, is_semi, ClassTakes, InterfaceTakes, IsOneName, IsClass, IsInterface, DeclFits, NamesPackage, ImportFits, UnitFits}
 use Rattle.rf_jtree.specs.DeclTrees.{ParamTree, ParamsTree, CtorCallTree, RetTree, Void, Value, BodyTree, Block, MemberTree, Init, Ctor, Method, Field, TypeDeclTree, ImportTree, UnitTree}
-use Rattle.rf_jtree.specs.DeclTrees.{names_yield, param_yield, params_yield, ctor_call_yield, ret_yield, member_yield, import_yield, package_yield}
+use Rattle.rf_jtree.specs.DeclTrees.{param_yield, member_yield, import_yield}
 use Rattle.rf_jtree.specs.NameFits.{EachFits, ManyFit, NameFits}
-use Rattle.rf_jtree.specs.NameTrees.{ManyTree, NameTree, name_yield, type_yield, mods_yield, option_yield, tok_yield, many_yield}
-use Rattle.rf_jtree.specs.StmtTrees.{VarTree, StmtsTree, stmts_yield, var_yield}
-use Rattle.rf_jview.specs.DeclWith.{names_with, param_with, params_with, ctor_call_with, ret_with, body_with, member_with, members_with, decl_with, import_name_with, import_with, unit_with}
-use Rattle.rf_jview.specs.Rewritings.{Rewriting, WritesNames, behind, option_with, behind_with, list_with, rest_with, many_with}
+use Rattle.rf_jtree.specs.NameTrees.{ManyTree, NameTree, name_yield}
+use Rattle.rf_jtree.specs.StmtTrees.{VarTree, var_yield}
+use Rattle.rf_jview.specs.DeclWith.{names_with, param_with, params_with, ctor_call_with, ret_with, body_with, member_with, decl_with, import_name_with, import_with, unit_with}
+use Rattle.rf_jview.specs.Rewritings.{Rewriting, WritesNames, behind, option_with, behind_with, rest_with, many_with}
 use Rattle.rf_jtree.specs.ExprTrees.{InitTree}
 use Rattle.rf_jview.specs.ExprWith.{init_with}
-use Rattle.rf_jview.specs.StmtWith.{var_with, vars_with}
+use Rattle.rf_jview.specs.StmtWith.{var_with}
 use Rattle.rf_jview.proofs.ExprFitsWith.{each_fits-with, many_fits-with, optional_fits-with, type_fits-with, args_fits-with}
 use Rattle.rf_jview.proofs.StmtFitsWith.{vars_fits-with, block_fits-with, stmts_fits-with}
 
 names_fits-with : (g : Rewriting) → WritesNames g → (key : Kw) (n : ℕ) (names : Option (Tok × ManyTree NameTree)) → IfSome names (NamesFit key)
-  → IfSome (names_with g n names) (NamesFit key)
+    → IfSome (names_with g n names) (NamesFit key)
 names_fits-with g w key n None fit = tt
 names_fits-with g w key n (Some names) fit = (fit.0, many_fits-with NameFits COMMA name_yield g.written w.names (suc n) names.1 fit.1)
 
@@ -28,9 +28,11 @@ param_fits-with g w n param fit =
     record { mods_fit = fit.mods_fit; sort_fits = type_fits-with g w _ param.sort fit.sort_fits; id_is = fit.id_is; dims_fit = fit.dims_fit }
 
 params_fits-with : (g : Rewriting) → WritesNames g → (n : ℕ) (params : ParamsTree) → ParamsFit params → ParamsFit (params_with g n params)
-params_fits-with g w n params fit =
-    (fit.0, optional_fits-with (ManyFit ParamFits COMMA) (many_with param_yield (param_with g))
-      (many_fits-with ParamFits COMMA param_yield (param_with g) (param_fits-with g w)) (suc n) params.list fit.1)
+params_fits-with g w n params fit = (
+  fit.0,
+  optional_fits-with (ManyFit ParamFits COMMA) (many_with param_yield (param_with g))
+      (many_fits-with ParamFits COMMA param_yield (param_with g) (param_fits-with g w)) (suc n) params.list fit.1,
+)
 
 ctor_call_fits-with : (g : Rewriting) → WritesNames g → (n : ℕ) (call : CtorCallTree) → CtorCallFits call → CtorCallFits (ctor_call_with g n call)
 ctor_call_fits-with g w n call fit = (fit.0, args_fits-with g w (suc n) call.args fit.1, fit.2)
@@ -44,7 +46,7 @@ body_fits-with g w n (Block block) fit = block_fits-with g w n block fit
 body_fits-with g w n (BodyTree.Semi semi) fit = fit
 
 callable-with : (g : Rewriting) → WritesNames g → (n : ℕ) (id other : Tok) (params : ParamsTree) (n2 : ℕ) (throws : Option (Tok × ManyTree NameTree)) → IsCallable id params throws
-  → other.kind ≡ id.kind → IsCallable other (params_with g n params) (names_with g n2 throws)
+    → other.kind ≡ id.kind → IsCallable other (params_with g n params) (names_with g n2 throws)
 callable-with g w n id other params n2 throws fit same = record {
   id_is = same ∙ fit.id_is;
   params_fit = params_fits-with g w n params fit.params_fit;
@@ -55,14 +57,15 @@ callable-with g w n id other params n2 throws fit same = record {
 member_fits-with : (g : Rewriting) → WritesNames g → (n : ℕ) (member : MemberTree) → MemberFits member → MemberFits (member_with g n member)
 member_fits-with g w n (MemberTree.Semi semi) fit = fit
 member_fits-with g w n (Init word body) fit = (fit.0, block_fits-with g w _ body fit.1)
-member_fits-with g w n (Ctor mods id params throws left call body right) fit =
-    (fit.0,
-      record {
-        callable = callable-with g w _ id _ params _ throws fit.1.callable refl;
-        braces = fit.1.braces;
-        call_fits = optional_fits-with CtorCallFits (ctor_call_with g) (ctor_call_fits-with g w) _ call fit.1.call_fits;
-      },
-      stmts_fits-with g w _ body fit.2)
+member_fits-with g w n (Ctor mods id params throws left call body right) fit = (
+  fit.0,
+  record {
+    callable = callable-with g w _ id _ params _ throws fit.1.callable refl;
+    braces = fit.1.braces;
+    call_fits = optional_fits-with CtorCallFits (ctor_call_with g) (ctor_call_fits-with g w) _ call fit.1.call_fits;
+  },
+  stmts_fits-with g w _ body fit.2,
+)
 member_fits-with g w n (Method mods ret id params throws body) fit =
     (fit.0, ret_fits-with g w _ ret fit.1, callable-with g w _ id _ params _ throws fit.2 refl, body_fits-with g w _ body fit.3)
 member_fits-with g w n (Field mods sort vars semi) fit = (fit.0, type_fits-with g w _ sort fit.1, vars_fits-with g w _ vars fit.2, fit.3)
@@ -83,7 +86,7 @@ begins-with g n None begins = begins
 begins-with g n (Some init) begins = begins
 
 more_begin-with : (g : Rewriting) (n : ℕ) (rest : List (Tok × VarTree)) → EachFits (λ item. IsSome item.1.init) rest
-  → EachFits (λ item. IsSome item.1.init) (rest_with var_yield (var_with g) n rest)
+    → EachFits (λ item. IsSome item.1.init) (rest_with var_yield (var_with g) n rest)
 more_begin-with g n [] begin = tt
 more_begin-with g n (item ∷ rest) begin = (begins-with g _ item.1.init begin.0, more_begin-with g (behind (suc n) (var_yield item.1)) rest begin.1)
 
@@ -125,6 +128,7 @@ decl_fits-with g w n decl fit = record {
       extends_one = one_name-with g _ decl.extends is.extends_one;
       takes_each = each_fits-with ClassTakes member_yield (member_with g) (class_takes-with g) _ decl.members is.takes_each;
     }
+
     as_interface : IsInterface decl → IsInterface (decl_with g n decl)
     as_interface is = record {
       word_is = is.word_is;

@@ -4,16 +4,16 @@ use Rattle.std.specs.List.{flat_map}
 use Rattle.rf_jtree.specs.declared.tokens.Tok.{Tok}
 use Rattle.rf_jtree.specs.DeclTrees.{ParamTree, ParamsTree, CtorCallTree, RetTree, Void, Value, BodyTree, Block, MemberTree, Init, Ctor, Method, Field, TypeDeclTree, ImportTree, UnitTree}
 use Rattle.rf_jtree.specs.DeclTrees.{names_yield, param_yield, params_yield, ctor_call_yield, ret_yield, body_yield, member_yield, decl_yield, import_yield, package_yield, unit_yield}
-use Rattle.rf_jtree.specs.NameTrees.{ManyTree, NameTree, name_yield, type_yield, mods_yield, dims_yield, option_yield, behind_yield, tok_yield, pair_yield, many_yield}
+use Rattle.rf_jtree.specs.NameTrees.{ManyTree, NameTree, name_yield, mods_yield, dims_yield, option_yield, behind_yield, tok_yield, pair_yield, many_yield}
 use Rattle.rf_jtree.specs.StmtTrees.{VarTree, StmtsTree, stmts_yield, var_yield}
 use Rattle.rf_jview.specs.declared.marks.Invocation.TheVariants as i
 use Rattle.rf_jview.specs.declared.marks.Mark.{Mark}
 use Rattle.rf_jview.specs.declared.marks.Mark.TheVariants as m
 use Rattle.rf_jview.specs.declared.marks.Opening.TheVariants as o
-use Rattle.rf_jview.specs.DeclMarks.{names_marks, param_marks, more_params_marks, many_params_marks, params_marks, ctor_call_marks, ctor_body_marks, ret_marks, body_marks, callable_marks}
+use Rattle.rf_jview.specs.DeclMarks.{names_marks, param_marks, more_params_marks, many_params_marks, ctor_call_marks, ctor_body_marks, ret_marks, body_marks, callable_marks}
 use Rattle.rf_jview.specs.DeclMarks.{more_fields_marks, fields_marks, member_marks, members_marks, brace_mark, decl_marks, import_name_marks, import_marks, unit_marks}
-use Rattle.rf_jview.specs.MarkWords.{after, plains}
-use Rattle.rf_jview.specs.NameMarks.{type_name_marks, type_marks, mods_marks, option_marks, behind_marks, many_marks}
+use Rattle.rf_jview.specs.MarkWords.{after}
+use Rattle.rf_jview.specs.NameMarks.{type_name_marks, mods_marks, option_marks, behind_marks, many_marks}
 use Rattle.rf_jview.proofs.Lengths.{AsMany, none, one, both, regroup, regroup_toks, each, optional, manies, tname_as_many, type_as_many}
 use Rattle.rf_jview.proofs.ExprLengths.{args_as_many}
 use Rattle.rf_jview.proofs.StmtLengths.{beginning_as_many, block_as_many, stmts_as_many}
@@ -21,7 +21,7 @@ use Rattle.rf_jview.proofs.StmtLengths.{beginning_as_many, block_as_many, stmts_
 names_as_many : (names : Option (Tok × ManyTree NameTree)) → AsMany (names_marks names) (names_yield names)
 names_as_many names =
     optional (behind_marks (many_marks type_name_marks)) (behind_yield (many_yield name_yield))
-      (λ part. one (manies type_name_marks name_yield tname_as_many part.1)) names
+    (λ part. one (manies type_name_marks name_yield tname_as_many part.1)) names
 
 -- methods and constructors
 param_as_many : (back : ℕ) (param : ParamTree) → AsMany (param_marks back param) (param_yield param)
@@ -36,19 +36,19 @@ many_params_as_many : (back : ℕ) (many : ManyTree ParamTree) → AsMany (many_
 many_params_as_many back many = both (param_as_many back many.first) (more_params_as_many (after back (param_marks back many.first)) many.rest)
 
 callable_as_many : (params : ParamsTree) (throws : Option (Tok × ManyTree NameTree)) {marks : List Mark} {toks : List Tok} → AsMany marks toks
-  → AsMany (callable_marks params.list throws marks) (params_yield params ++ (names_yield throws ++ toks))
+    → AsMany (callable_marks params.list throws marks) (params_yield params ++ (names_yield throws ++ toks))
 callable_as_many params throws {marks} {toks} same =
     one (regroup_toks (option_yield (many_yield param_yield) params.list) (params.right ∷ []) (names_yield throws ++ toks)
-      (both (optional (many_params_marks 1) (many_yield param_yield) (many_params_as_many 1) params.list) (one (both (names_as_many throws) same))))
+    (both (optional (many_params_marks 1) (many_yield param_yield) (many_params_as_many 1) params.list) (one (both (names_as_many throws) same))))
 
 ctor_call_as_many : (call : CtorCallTree) → AsMany (ctor_call_marks call) (ctor_call_yield call)
 ctor_call_as_many call = one (both (args_as_many i.Ctor 1 call.args) (one none))
 
 ctor_body_as_many : (left right : Tok) (call : Option CtorCallTree) (body : StmtsTree)
-  → AsMany (ctor_body_marks call body) (left ∷ (option_yield ctor_call_yield call ++ (stmts_yield body ++ right ∷ [])))
+    → AsMany (ctor_body_marks call body) (left ∷ (option_yield ctor_call_yield call ++ (stmts_yield body ++ right ∷ [])))
 ctor_body_as_many left right call body =
     one (both (optional ctor_call_marks ctor_call_yield ctor_call_as_many call)
-      (both (stmts_as_many (after 1 (option_marks ctor_call_marks call)) body) (one none)))
+    (both (stmts_as_many (after 1 (option_marks ctor_call_marks call)) body) (one none)))
 
 ret_as_many : (ret : RetTree) → AsMany (ret_marks ret) (ret_yield ret)
 ret_as_many (Void word) = one none
@@ -86,9 +86,9 @@ decl_as_many decl =
     let supers = names_marks decl.implements ++ brace_mark decl.word decl.members ∷ [] in
     let rest = members_marks decl.members ++ m.Plain ∷ [] in
     regroup (mods_marks decl.mods) (m.Plain ∷ m.Type ∷ (names_marks decl.extends ++ supers)) rest
-      (both (each (mods_yield decl.mods)) (one (one (regroup (names_marks decl.extends) supers rest
-        (both (names_as_many decl.extends) (regroup (names_marks decl.implements) (brace_mark decl.word decl.members ∷ []) rest
-          (both (names_as_many decl.implements) (one (both (members_as_many decl.members) (one none))))))))))
+    (both (each (mods_yield decl.mods)) (one (one (regroup (names_marks decl.extends) supers rest
+    (both (names_as_many decl.extends) (regroup (names_marks decl.implements) (brace_mark decl.word decl.members ∷ []) rest
+    (both (names_as_many decl.implements) (one (both (members_as_many decl.members) (one none))))))))))
 
 import_name_as_many : (name : NameTree) (star : Option (Tok × Tok)) → AsMany (import_name_marks name star) (name_yield name)
 import_name_as_many name None = tname_as_many name

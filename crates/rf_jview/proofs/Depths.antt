@@ -1,8 +1,8 @@
 -- A file is as deep where it is rewritten.
-use Rattle.std.proofs.Common.{◌≡◌, ℕ, suc, ◌+◌, max, List, [], ◌∷◌, Option, Some, None, refl, ap, ◌∙◌}
+use Rattle.std.proofs.Common.{◌≡◌, ℕ, suc, max, List, [], ◌∷◌, Option, Some, None, refl, ap, ◌∙◌}
 use Rattle.rf_jtree.specs.declared.tokens.Tok.{Tok}
-use Rattle.rf_jtree.specs.DeclTrees.{CtorCallTree, BodyTree, Block, MemberTree, Init, Ctor, Method, Field, UnitTree, body_depth, member_depth, unit_depth}
-use Rattle.rf_jtree.specs.DeclTrees.{names_yield, params_yield, ctor_call_yield, ret_yield, member_yield}
+use Rattle.rf_jtree.specs.DeclTrees.{BodyTree, Block, MemberTree, Init, Ctor, Method, Field, UnitTree, body_depth, member_depth, unit_depth}
+use Rattle.rf_jtree.specs.DeclTrees.{names_yield, params_yield, ctor_call_yield, member_yield}
 use Rattle.rf_jtree.specs.ExprTrees.{ExprTree, Assign, Cond, Binary, Instance, Unary, Cast, Postfix, Lit, This, Paren, Name, Call, Field, Super, New, Index, NewArray, NewInit}
 use Rattle.rf_jtree.specs.ExprTrees.{OnTree, NoOn, On, ArgsTree, Args, SuperArgsTree, NoArgs, SuperArgs, ExprsTree, NoExprs, Exprs, MoreExprsTree, NoMoreExprs, MoreExprs, SizesTree, NoSizes, Sizes}
 use Rattle.rf_jtree.specs.ExprTrees.{InitTree, Value, Braced, BracesTree, Braces, InitsTree, NoInits, Inits, MoreInitsTree, NoMoreInits, MoreInits}
@@ -19,29 +19,29 @@ use Rattle.rf_jview.specs.Rewritings.{Rewriting, behind, option_with, behind_wit
 use Rattle.rf_jview.specs.StmtWith.{var_with, local_with, first_with, stmt_with, block_with, stmts_with, other_with, group_with, groups_with, catch_with, catches_with, last_with}
 
 option_depth-with : {A : Type 0} (depth : A → ℕ) (change : ℕ → A → A) → ((n : ℕ) (part : A) → depth (change n part) ≡ depth part) → (n : ℕ) (part : Option A)
-  → option_depth depth (option_with change n part) ≡ option_depth depth part
+    → option_depth depth (option_with change n part) ≡ option_depth depth part
 option_depth-with depth change each n None = refl
 option_depth-with depth change each n (Some part) = each n part
 
 list_depth-with : {A : Type 0} (yield : A → List Tok) (depth : A → ℕ) (change : ℕ → A → A) → ((n : ℕ) (part : A) → depth (change n part) ≡ depth part)
-  → (n : ℕ) (parts : List A) → list_depth depth (list_with yield change n parts) ≡ list_depth depth parts
+    → (n : ℕ) (parts : List A) → list_depth depth (list_with yield change n parts) ≡ list_depth depth parts
 list_depth-with yield depth change each n [] = refl
 list_depth-with yield depth change each n (part ∷ parts) =
     ap (λ d. max d (list_depth depth (list_with yield change (behind n (yield part)) parts))) (each n part)
-      ∙ ap (max (depth part)) (list_depth-with yield depth change each (behind n (yield part)) parts)
+    ∙ ap (max (depth part)) (list_depth-with yield depth change each (behind n (yield part)) parts)
 
 rest_depth-with : {A : Type 0} (yield : A → List Tok) (depth : A → ℕ) (change : ℕ → A → A) → ((n : ℕ) (part : A) → depth (change n part) ≡ depth part)
-  → (n : ℕ) (rest : List (Tok × A)) → list_depth (λ item. depth item.1) (rest_with yield change n rest) ≡ list_depth (λ item. depth item.1) rest
+    → (n : ℕ) (rest : List (Tok × A)) → list_depth (λ item. depth item.1) (rest_with yield change n rest) ≡ list_depth (λ item. depth item.1) rest
 rest_depth-with yield depth change each n [] = refl
 rest_depth-with yield depth change each n (item ∷ rest) =
     ap (λ d. max d (list_depth (λ item. depth item.1) (rest_with yield change (behind (suc n) (yield item.1)) rest))) (each (suc n) item.1)
-      ∙ ap (max (depth item.1)) (rest_depth-with yield depth change each (behind (suc n) (yield item.1)) rest)
+    ∙ ap (max (depth item.1)) (rest_depth-with yield depth change each (behind (suc n) (yield item.1)) rest)
 
 many_depth-with : {A : Type 0} (yield : A → List Tok) (depth : A → ℕ) (change : ℕ → A → A) → ((n : ℕ) (part : A) → depth (change n part) ≡ depth part)
-  → (n : ℕ) (many : ManyTree A) → many_depth depth (many_with yield change n many) ≡ many_depth depth many
+    → (n : ℕ) (many : ManyTree A) → many_depth depth (many_with yield change n many) ≡ many_depth depth many
 many_depth-with yield depth change each n many =
     ap (λ d. max d (list_depth (λ item. depth item.1) (rest_with yield change (behind n (yield many.first)) many.rest))) (each n many.first)
-      ∙ ap (max (depth many.first)) (rest_depth-with yield depth change each (behind n (yield many.first)) many.rest)
+    ∙ ap (max (depth many.first)) (rest_depth-with yield depth change each (behind n (yield many.first)) many.rest)
 
 mutual
   pub expr_depth-with : (g : Rewriting) (n : ℕ) (tree : ExprTree) → expr_depth (expr_with g n tree) ≡ expr_depth tree
@@ -173,8 +173,8 @@ member_depth-with g n (Init word body) = block_depth-with g (behind n (option_yi
 member_depth-with g n (Ctor mods id params throws left call body right) =
     let before = suc (behind (behind (suc (behind n (mods_yield mods))) (params_yield params)) (names_yield throws)) in
     ap (λ d. max d (stmts_depth (stmts_with g (behind before (option_yield ctor_call_yield call)) body)))
-        (option_depth-with (λ call. args_depth call.args) (ctor_call_with g) (λ n call. args_depth-with g (suc n) call.args) before call)
-      ∙ ap (max (option_depth (λ call. args_depth call.args) call)) (stmts_depth-with g (behind before (option_yield ctor_call_yield call)) body)
+    (option_depth-with (λ call. args_depth call.args) (ctor_call_with g) (λ n call. args_depth-with g (suc n) call.args) before call)
+    ∙ ap (max (option_depth (λ call. args_depth call.args) call)) (stmts_depth-with g (behind before (option_yield ctor_call_yield call)) body)
 member_depth-with g n (Method mods ret id params throws body) = body_depth-with g _ body
 member_depth-with g n (Field mods sort vars semi) = many_depth-with var_yield var_depth (var_with g) (var_depth-with g) _ vars
 

@@ -1,5 +1,5 @@
 -- An expression that fits does so where it is rewritten.
-use Rattle.std.proofs.Common.{◌≡◌, ◌≤◌, ◌≢◌, ℕ, suc, List, [], ◌∷◌, Option, Some, None, IfSome, IsTrue, refl, sym, subst}
+use Rattle.std.proofs.Common.{◌≡◌, ◌≤◌, ℕ, suc, List, [], ◌∷◌, Option, Some, None, IfSome, IsTrue, refl, sym, subst}
 use Rattle.rf_jtree.specs.declared.operators.Op.{Op}
 use Rattle.rf_jtree.specs.declared.tokens.Tok.{Tok}
 use Rattle.rf_jtree.specs.declared.operator_names.TheConstants.{DOT}
@@ -16,29 +16,29 @@ use Rattle.rf_jtree.specs.NameTrees.{ManyTree, NameTree, TypeBaseTree, Prim, Nam
 use Rattle.rf_jfit.specs.ExprFirst.{expr_first, on_first}
 use Rattle.rf_jfit.proofs.ExprFirstLemmas.{BeginsOperand_yield}
 use Rattle.rf_jview.specs.ExprWith.{expr_with, on_with, args_with, super_args_with, exprs_with, more_exprs_with, sizes_with, init_with, braces_with, inits_with, more_inits_with}
-use Rattle.rf_jview.specs.Rewritings.{Rewriting, WritesNames, behind, retext, option_with, behind_with, list_with, rest_with, many_with, name_with, base_with, type_with}
+use Rattle.rf_jview.specs.Rewritings.{Rewriting, WritesNames, behind, retext, option_with, list_with, rest_with, many_with, name_with, base_with, type_with}
 
 -- lists of parts, and parts that may be left out
 pub each_fits-with : {A : Type 0} (Fits : A → Type 0) (yield : A → List Tok) (change : ℕ → A → A) → ((n : ℕ) (part : A) → Fits part → Fits (change n part))
-  → (n : ℕ) (parts : List A) → EachFits Fits parts → EachFits Fits (list_with yield change n parts)
+    → (n : ℕ) (parts : List A) → EachFits Fits parts → EachFits Fits (list_with yield change n parts)
 each_fits-with Fits yield change each n [] fit = tt
 each_fits-with Fits yield change each n (part ∷ parts) fit =
     (each n part fit.0, each_fits-with Fits yield change each (behind n (yield part)) parts fit.1)
 
 rest_fits-with : {A : Type 0} (Fits : A → Type 0) (between : Op) (yield : A → List Tok) (change : ℕ → A → A) → ((n : ℕ) (part : A) → Fits part → Fits (change n part))
-  → (n : ℕ) (rest : List (Tok × A)) → EachFits (λ item. IsOp between item.0 × Fits item.1) rest
-  → EachFits (λ item. IsOp between item.0 × Fits item.1) (rest_with yield change n rest)
+    → (n : ℕ) (rest : List (Tok × A)) → EachFits (λ item. IsOp between item.0 × Fits item.1) rest
+    → EachFits (λ item. IsOp between item.0 × Fits item.1) (rest_with yield change n rest)
 rest_fits-with Fits between yield change each n [] fit = tt
 rest_fits-with Fits between yield change each n (item ∷ rest) fit =
     ((fit.0.0, each (suc n) item.1 fit.0.1), rest_fits-with Fits between yield change each (behind (suc n) (yield item.1)) rest fit.1)
 
 pub many_fits-with : {A : Type 0} (Fits : A → Type 0) (between : Op) (yield : A → List Tok) (change : ℕ → A → A) → ((n : ℕ) (part : A) → Fits part → Fits (change n part))
-  → (n : ℕ) (many : ManyTree A) → ManyFit Fits between many → ManyFit Fits between (many_with yield change n many)
+    → (n : ℕ) (many : ManyTree A) → ManyFit Fits between many → ManyFit Fits between (many_with yield change n many)
 many_fits-with Fits between yield change each n many fit =
     (each n many.first fit.0, rest_fits-with Fits between yield change each (behind n (yield many.first)) many.rest fit.1)
 
 pub optional_fits-with : {A : Type 0} (Fits : A → Type 0) (change : ℕ → A → A) → ((n : ℕ) (part : A) → Fits part → Fits (change n part))
-  → (n : ℕ) (part : Option A) → IfSome part Fits → IfSome (option_with change n part) Fits
+    → (n : ℕ) (part : Option A) → IfSome part Fits → IfSome (option_with change n part) Fits
 optional_fits-with Fits change each n None fit = tt
 optional_fits-with Fits change each n (Some part) fit = each n part fit
 
@@ -173,7 +173,7 @@ begins-with g n tree begins =
     (BeginsOperand_yield (expr_with g n tree)).0 (subst IsTrue (sym (first-with g n tree)) ((BeginsOperand_yield tree).1 begins))
 
 cast_takes-with : (g : Rewriting) (n : ℕ) (base : TypeBaseTree) (dims : List (Tok × Tok)) (next : ℕ) (value : ExprTree) → CastTakes base dims (expr_yield value)
-  → CastTakes (base_with g n base) dims (expr_yield (expr_with g next value))
+    → CastTakes (base_with g n base) dims (expr_yield (expr_with g next value))
 cast_takes-with g n (Prim tok) [] next value takes = tt
 cast_takes-with g n (Prim tok) (pair ∷ dims) next value takes = begins-with g next value takes
 cast_takes-with g n (Named name) dims next value takes = begins-with g next value takes

@@ -1,12 +1,12 @@
 -- As many marks as tokens: how lists of both go together.
 use Rattle.std.proofs.Common.{◌≡◌, ℕ, suc, ◌+◌, List, [], ◌∷◌, ◌++◌, length, Option, Some, None, refl, sym, ap, ◌∙◌}
-use Rattle.std.proofs.lemmas.List.{length-append, append_assoc, length-map}
+use Rattle.std.proofs.lemmas.List.{length-append, append_assoc}
 use Rattle.std.specs.List.{flat_map}
 use Rattle.rf_jtree.specs.declared.tokens.Tok.{Tok}
-use Rattle.rf_jtree.specs.NameTrees.{ManyTree, NameTree, TypeBaseTree, Prim, Named, TypeUseTree, name_yield, base_yield, type_yield, dims_yield, option_yield, behind_yield, many_yield}
+use Rattle.rf_jtree.specs.NameTrees.{ManyTree, NameTree, TypeBaseTree, Prim, Named, TypeUseTree, name_yield, base_yield, type_yield, dims_yield, option_yield, many_yield}
 use Rattle.rf_jview.specs.declared.marks.Mark.{Mark}
 use Rattle.rf_jview.specs.MarkWords.{plains}
-use Rattle.rf_jview.specs.NameMarks.{type_rest_marks, type_name_marks, name_rest_marks, name_marks, base_marks, dims_marks, type_marks, option_marks, behind_marks, many_marks}
+use Rattle.rf_jview.specs.NameMarks.{type_rest_marks, type_name_marks, name_rest_marks, name_marks, base_marks, type_marks, option_marks, behind_marks, many_marks}
 
 pub record AsMany (marks : List Mark) (toks : List Tok) : Type 0 where
   pub equal : length marks ≡ length toks
@@ -32,17 +32,17 @@ each [] = none
 each (tok ∷ toks) = one (each toks)
 
 pub optional : {A : Type 0} (marks : A → List Mark) (yield : A → List Tok) → ((part : A) → AsMany (marks part) (yield part)) → (part : Option A)
-  → AsMany (option_marks marks part) (option_yield yield part)
+    → AsMany (option_marks marks part) (option_yield yield part)
 optional marks yield same None = none
 optional marks yield same (Some part) = same part
 
 pub rests : {A : Type 0} (marks : A → List Mark) (yield : A → List Tok) → ((part : A) → AsMany (marks part) (yield part)) → (rest : List (Tok × A))
-  → AsMany (flat_map (behind_marks marks) rest) (flat_map (λ item. item.0 ∷ yield item.1) rest)
+    → AsMany (flat_map (behind_marks marks) rest) (flat_map (λ item. item.0 ∷ yield item.1) rest)
 rests marks yield same [] = none
 rests marks yield same (item ∷ rest) = one (both (same item.1) (rests marks yield same rest))
 
 pub manies : {A : Type 0} (marks : A → List Mark) (yield : A → List Tok) → ((part : A) → AsMany (marks part) (yield part)) → (many : ManyTree A)
-  → AsMany (many_marks marks many) (many_yield yield many)
+    → AsMany (many_marks marks many) (many_yield yield many)
 manies marks yield same many = both (same many.first) (rests marks yield same many.rest)
 
 -- names and types

@@ -1,5 +1,5 @@
 -- A statement that fits does so where it is rewritten.
-use Rattle.std.proofs.Common.{◌≡◌, ℕ, suc, List, [], ◌∷◌, Option, Some, None, IfSome, IsTrue, refl, sym, subst}
+use Rattle.std.proofs.Common.{◌≡◌, ℕ, suc, Option, Some, None, IsTrue, refl, subst}
 use Rattle.rf_jtree.specs.declared.tokens.Tok.{Tok}
 use Rattle.rf_jtree.specs.declared.operator_names.TheConstants.{COMMA}
 use Rattle.rf_jtree.specs.ExprFits.{ExprFits}
@@ -11,7 +11,7 @@ use Rattle.rf_jtree.specs.StmtFits.{BeginningFits, VarFits, LocalFits, IsNoLocal
 use Rattle.rf_jtree.specs.StmtFits.{StmtFits, BlockFits, StmtsFit, OtherFits, GroupFits, GroupsFit, CatchFits, CatchesFit, LastFits}
 use Rattle.rf_jtree.specs.StmtTrees.{VarTree, LocalTree, ForFirstTree, StmtTree, Block, Empty, Label, Value, If, While, Do, For, Each, Switch, Jump, Return, Throw, Sync, Assert, Try}
 use Rattle.rf_jtree.specs.StmtTrees.{BlockTree, Braces, StmtsTree, NoStmts, Stmts, OtherTree, NoOther, Other, GroupTree, Group, GroupsTree, NoGroups, Groups, CatchTree, Catch, CatchesTree, NoCatches, Catches, LastTree, NoLast, Last}
-use Rattle.rf_jtree.specs.StmtTrees.{var_yield, local_yield, first_yield, stmt_yield, block_yield, stmts_yield, group_yield, catch_yield, catches_yield}
+use Rattle.rf_jtree.specs.StmtTrees.{var_yield, first_yield, stmt_yield, block_yield, group_yield, catch_yield, catches_yield}
 use Rattle.rf_jview.specs.ExprWith.{expr_with, exprs_with, more_exprs_with, init_with}
 use Rattle.rf_jview.specs.Rewritings.{Rewriting, WritesNames, behind, option_with, behind_with}
 use Rattle.rf_jview.specs.StmtWith.{var_with, vars_with, local_with, first_with, stmt_with, block_with, stmts_with, other_with, group_with, groups_with, catch_with, catches_with, last_with}
@@ -23,7 +23,7 @@ var_fits-with g w n var fit = record {
   id_is = fit.id_is;
   dims_fit = fit.dims_fit;
   beginning_fits = optional_fits-with BeginningFits (behind_with (init_with g)) (λ n part fit. (fit.0, init_fits-with g w (suc n) part.1 fit.1))
-    (behind (suc n) (dims_yield var.dims)) var.init fit.beginning_fits;
+      (behind (suc n) (dims_yield var.dims)) var.init fit.beginning_fits;
 }
 
 pub vars_fits-with : (g : Rewriting) → WritesNames g → (n : ℕ) (vars : ManyTree VarTree) → ManyFit VarFits COMMA vars → ManyFit VarFits COMMA (vars_with g n vars)
@@ -118,7 +118,7 @@ nearest-with g n then next NoOther nearest = tt
 nearest-with g n then next (Other word stmt) nearest = λ ends. nearest (subst IsTrue (ends_open-with g n then) ends)
 
 has_part-with : (g : Rewriting) (n : ℕ) (catches : CatchesTree) (next : ℕ) (last : LastTree) → HasCatchOrLast catches last
-  → HasCatchOrLast (catches_with g n catches) (last_with g next last)
+    → HasCatchOrLast (catches_with g n catches) (last_with g next last)
 has_part-with g n NoCatches next NoLast has = has
 has_part-with g n NoCatches next (Last word body) has = tt
 has_part-with g n (Catches first rest) next last has = tt

@@ -34,7 +34,7 @@ locals_as_many back vars = both (one (beginning_as_many vars.first)) (more_local
 pub local_as_many : (back : ℕ) (local : LocalTree) → AsMany (local_marks back local) (local_yield local)
 local_as_many back local =
     both (each (mods_yield local.mods))
-      (both (type_as_many local.sort) (locals_as_many (after (after back (mods_marks local.mods)) (type_marks local.sort)) local.vars))
+    (both (type_as_many local.sort) (locals_as_many (after (after back (mods_marks local.mods)) (type_marks local.sort)) local.vars))
 
 first_as_many : (back : ℕ) (first : ForFirstTree) → AsMany (first_marks back first) (first_yield first)
 first_as_many back (ForFirstTree.Local local) = local_as_many back local
@@ -42,34 +42,34 @@ first_as_many back (ForFirstTree.Exprs exprs) = exprs_as_many exprs
 
 -- what stands before bodies
 head_as_many : (word left right : Tok) (test : ExprTree) {marks : List Mark} {toks : List Tok} → AsMany marks toks
-  → AsMany (head_marks test ++ marks) (word ∷ left ∷ (expr_yield test ++ right ∷ toks))
+    → AsMany (head_marks test ++ marks) (word ∷ left ∷ (expr_yield test ++ right ∷ toks))
 head_as_many word left right test {marks} same = one (one (regroup (expr_marks test) (m.Plain ∷ []) marks (both (expr_as_many test) (one same))))
 
 for_head_as_many : (left semi1 semi2 right : Tok) (first : ForFirstTree) (test : Option ExprTree) (last : ExprsTree) {marks : List Mark} {toks : List Tok}
-  → AsMany marks toks
-  → AsMany (for_head_marks first test last ++ marks) (left ∷ (first_yield first ++ semi1 ∷ (option_yield expr_yield test ++ semi2 ∷ (exprs_yield last ++ right ∷ toks))))
+    → AsMany marks toks
+    → AsMany (for_head_marks first test last ++ marks) (left ∷ (first_yield first ++ semi1 ∷ (option_yield expr_yield test ++ semi2 ∷ (exprs_yield last ++ right ∷ toks))))
 for_head_as_many left semi1 semi2 right first test last {marks} same =
     let tests = option_marks expr_marks test in
     let lasts = exprs_marks last ++ m.Plain ∷ [] in
     one (regroup (first_marks 2 first) (m.Plain ∷ (tests ++ m.Plain ∷ lasts)) marks
-      (both (first_as_many 2 first) (one (regroup tests (m.Plain ∷ lasts) marks
-        (both (optional expr_marks expr_yield expr_as_many test) (one (regroup (exprs_marks last) (m.Plain ∷ []) marks (both (exprs_as_many last) (one same)))))))))
+    (both (first_as_many 2 first) (one (regroup tests (m.Plain ∷ lasts) marks
+    (both (optional expr_marks expr_yield expr_as_many test) (one (regroup (exprs_marks last) (m.Plain ∷ []) marks (both (exprs_as_many last) (one same)))))))))
 
 each_head_as_many : (word left id colon : Tok) (mods : List ModTree) (sort : TypeUseTree) (over : ExprTree) {marks : List Mark} {toks : List Tok}
-  → AsMany marks toks
-  → AsMany (each_head_marks mods sort over ++ marks) (word ∷ left ∷ (mods_yield mods ++ (type_yield sort ++ id ∷ colon ∷ (expr_yield over ++ toks))))
+    → AsMany marks toks
+    → AsMany (each_head_marks mods sort over ++ marks) (word ∷ left ∷ (mods_yield mods ++ (type_yield sort ++ id ∷ colon ∷ (expr_yield over ++ toks))))
 each_head_as_many word left id colon mods sort over {marks} same =
     let overs = m.Ahead (2 + counted (expr_marks over)) ∷ m.Plain ∷ expr_marks over in
     one (one (regroup (mods_marks mods) (type_marks sort ++ overs) marks
-      (both (each (mods_yield mods)) (regroup (type_marks sort) overs marks (both (type_as_many sort) (one (one (both (expr_as_many over) same))))))))
+    (both (each (mods_yield mods)) (regroup (type_marks sort) overs marks (both (type_as_many sort) (one (one (both (expr_as_many over) same))))))))
 
 catch_head_as_many : (word left id right : Tok) (fixed : Option Tok) (name : NameTree) {marks : List Mark} {toks : List Tok} → AsMany marks toks
-  → AsMany (catch_head_marks fixed (type_name_marks name) ++ marks) (word ∷ left ∷ (option_yield tok_yield fixed ++ (name_yield name ++ id ∷ right ∷ toks)))
+    → AsMany (catch_head_marks fixed (type_name_marks name) ++ marks) (word ∷ left ∷ (option_yield tok_yield fixed ++ (name_yield name ++ id ∷ right ∷ toks)))
 catch_head_as_many word left id right fixed name {marks} same =
     let names = type_name_marks name ++ m.Ahead 2 ∷ m.Plain ∷ [] in
     let firsts = option_yield tok_yield fixed in
     one (one (regroup (plains firsts) names marks
-      (both (each firsts) (regroup (type_name_marks name) (m.Ahead 2 ∷ m.Plain ∷ []) marks (both (tname_as_many name) (one (one same)))))))
+    (both (each firsts) (regroup (type_name_marks name) (m.Ahead 2 ∷ m.Plain ∷ []) marks (both (tname_as_many name) (one (one same)))))))
 
 mutual
   pub stmt_as_many : (back : ℕ) (tree : StmtTree) → AsMany (stmt_marks back tree) (stmt_yield tree)

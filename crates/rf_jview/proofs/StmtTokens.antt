@@ -1,5 +1,5 @@
 -- What becomes of the tokens of a statement that is rewritten.
-use Rattle.std.proofs.Common.{ℕ, suc, List, [], ◌∷◌}
+use Rattle.std.proofs.Common.{ℕ, suc}
 use Rattle.rf_jtree.specs.ExprTrees.{expr_yield, exprs_yield, init_yield}
 use Rattle.rf_jtree.specs.NameTrees.{ManyTree, name_yield, type_yield, mods_yield, dims_yield, option_yield, behind_yield, tok_yield, many_yield}
 use Rattle.rf_jtree.specs.StmtTrees.{VarTree, LocalTree, ForFirstTree, StmtTree, Block, Empty, Label, Value, If, While, Do, For, Each, Switch, Jump, Return, Throw, Sync, Assert, Try}
@@ -15,7 +15,7 @@ use Rattle.rf_jview.proofs.Tokens.{joined, kept_then, text_then, same, optional_
 pub var_tokens : (g : Rewriting) (n : ℕ) (var : VarTree) → Rewritten g n (var_yield var) (var_yield (var_with g n var))
 var_tokens g n var =
     text_then var.id (joined (same (dims_yield var.dims))
-      (optional_tokens (behind_yield init_yield) (behind_with (init_with g)) (behind_tokens init_yield (init_with g) (init_tokens g)) (behind (suc n) (dims_yield var.dims)) var.init))
+    (optional_tokens (behind_yield init_yield) (behind_with (init_with g)) (behind_tokens init_yield (init_with g) (init_tokens g)) (behind (suc n) (dims_yield var.dims)) var.init))
 
 pub vars_tokens : (g : Rewriting) (n : ℕ) (vars : ManyTree VarTree) → Rewritten g n (many_yield var_yield vars) (many_yield var_yield (vars_with g n vars))
 vars_tokens g n vars = many_tokens var_yield (var_with g) (var_tokens g) n vars
@@ -23,8 +23,8 @@ vars_tokens g n vars = many_tokens var_yield (var_with g) (var_tokens g) n vars
 pub local_tokens : (g : Rewriting) (n : ℕ) (local : LocalTree) → Rewritten g n (local_yield local) (local_yield (local_with g n local))
 local_tokens g n local =
     joined (same (mods_yield local.mods))
-      (joined (type_tokens g (behind n (mods_yield local.mods)) local.sort)
-        (vars_tokens g (behind (behind n (mods_yield local.mods)) (type_yield local.sort)) local.vars))
+    (joined (type_tokens g (behind n (mods_yield local.mods)) local.sort)
+    (vars_tokens g (behind (behind n (mods_yield local.mods)) (type_yield local.sort)) local.vars))
 
 first_tokens : (g : Rewriting) (n : ℕ) (first : ForFirstTree) → Rewritten g n (first_yield first) (first_yield (first_with g n first))
 first_tokens g n (ForFirstTree.Local local) = local_tokens g n local

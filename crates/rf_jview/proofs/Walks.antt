@@ -3,7 +3,6 @@ use Rattle.std.proofs.Common.{◌≡◌, ◌<◌, ℕ, suc, ◌+◌, ◌-◌, Li
 use Rattle.std.proofs.Math.Seq.{set-append_seam}
 use Rattle.rf_jtree.specs.declared.tokens.Tok.{Tok}
 use Rattle.rf_jview.specs.declared.accounts.Account.{Account}
-use Rattle.rf_jview.specs.declared.accounts.Start.{Start}
 use Rattle.rf_jview.specs.declared.marks.Invocation.{Invocation}
 use Rattle.rf_jview.specs.declared.marks.Mark.{Mark}
 use Rattle.rf_jview.specs.declared.marks.Mark.TheVariants as m
@@ -21,6 +20,7 @@ noted-nil account = ap (λ list. let whole : Account = record { list = list; bac
   where
     zero_more : account.back + 0 ≡ account.back
     zero_more = omega arith
+
     same : (let whole : Account = record { list = account.list; back = account.back + 0 } in whole) ≡ account
     same = ap (λ back. let whole : Account = record { list = account.list; back = back } in whole) zero_more
 
@@ -28,10 +28,11 @@ pub noted-noted : (account : Account) (some more : List Mark) → noted (noted a
 unfolding noted
 noted-noted account some more =
     ap (λ list. let whole : Account = record { list = list; back = account.back + counted some + counted more } in whole) (append_assoc account.list some more)
-      ∙ ap (λ back. let whole : Account = record { list = account.list ++ (some ++ more); back = back } in whole) backs
+    ∙ ap (λ back. let whole : Account = record { list = account.list ++ (some ++ more); back = back } in whole) backs
   where
     counts : counted (some ++ more) ≡ counted some + counted more
     counts = counted-append some more
+
     backs : account.back + counted some + counted more ≡ account.back + counted (some ++ more)
     backs = omega (arith, counts)
 
@@ -44,7 +45,7 @@ unfolding entered back_of
 back-entered account = refl
 
 pub invoked-noted : (invocation : Invocation) (back : ℕ) (account : Account) (marks : List Mark)
-  → invoke_mark invocation back (back_of account) (noted account (m.Plain ∷ marks)) ≡ m.Invokes invocation (back + 1 + counted marks)
+    → invoke_mark invocation back (back_of account) (noted account (m.Plain ∷ marks)) ≡ m.Invokes invocation (back + 1 + counted marks)
 unfolding noted back_of invoke_mark
 invoked-noted invocation back account marks = ap (m.Invokes invocation) widths
   where
@@ -60,28 +61,30 @@ unfolding noted start_of
 awaited account marks = rw (length-append account.list (m.Ahead 0 ∷ m.Plain ∷ marks)) (omega arith)
 
 pub opened-noted : (opening : Opening) (account : Account) (marks : List Mark)
-  → opened opening (start_of account) (noted (entered account) marks) ≡ noted account (opens opening marks)
+    → opened opening (start_of account) (noted (entered account) marks) ≡ noted account (opens opening marks)
 unfolding noted start_of entered opened
 opened-noted opening account marks =
     ap (λ width. let whole : Account = record { list = slice_set ((account.list ++ m.Plain ∷ []) ++ marks) (length account.list) (m.Opens opening width); back = account.back + (1 + counted marks) } in whole) widths
-      ∙ (ap (λ list. let whole : Account = record { list = list; back = account.back + (1 + counted marks) } in whole) lists
-        ∙ ap (λ width. let whole : Account = record { list = account.list ++ m.Opens opening (counted marks) ∷ marks; back = account.back + width } in whole) sums)
+    ∙ (ap (λ list. let whole : Account = record { list = list; back = account.back + (1 + counted marks) } in whole) lists
+    ∙ ap (λ width. let whole : Account = record { list = account.list ++ m.Opens opening (counted marks) ∷ marks; back = account.back + width } in whole) sums)
   where
     widths : 1 + counted marks - 1 ≡ counted marks
     widths = omega arith
+
     sums : 1 + counted marks ≡ suc (counted marks)
     sums = omega arith
+
     lists : slice_set ((account.list ++ m.Plain ∷ []) ++ marks) (length account.list) (m.Opens opening (counted marks)) ≡ account.list ++ m.Opens opening (counted marks) ∷ marks
     lists = ap (λ list. slice_set list (length account.list) (m.Opens opening (counted marks))) (append_assoc account.list (m.Plain ∷ []) marks)
-      ∙ set-append_seam account.list m.Plain marks (m.Opens opening (counted marks))
+        ∙ set-append_seam account.list m.Plain marks (m.Opens opening (counted marks))
 
 pub pointed-noted : (account : Account) (marks : List Mark)
-  → pointed (start_of account) (noted account (m.Ahead 0 ∷ m.Plain ∷ marks)) ≡ noted account (m.Ahead (2 + counted marks) ∷ m.Plain ∷ marks)
+    → pointed (start_of account) (noted account (m.Ahead 0 ∷ m.Plain ∷ marks)) ≡ noted account (m.Ahead (2 + counted marks) ∷ m.Plain ∷ marks)
 unfolding noted start_of pointed
 pointed-noted account marks =
     ap (λ ahead. let whole : Account = record { list = slice_set (account.list ++ m.Ahead 0 ∷ m.Plain ∷ marks) (length account.list) (m.Ahead ahead); back = account.back + counted (m.Ahead 0 ∷ m.Plain ∷ marks) } in whole) aheads
-      ∙ ap (λ list. let whole : Account = record { list = list; back = account.back + counted (m.Ahead 0 ∷ m.Plain ∷ marks) } in whole)
-        (set-append_seam account.list (m.Ahead 0) (m.Plain ∷ marks) (m.Ahead (2 + counted marks)))
+    ∙ ap (λ list. let whole : Account = record { list = list; back = account.back + counted (m.Ahead 0 ∷ m.Plain ∷ marks) } in whole)
+    (set-append_seam account.list (m.Ahead 0) (m.Plain ∷ marks) (m.Ahead (2 + counted marks)))
   where
     aheads : account.back + counted (m.Ahead 0 ∷ m.Plain ∷ marks) - account.back ≡ 2 + counted marks
     aheads = omega arith
@@ -91,8 +94,13 @@ plains-append [] more = refl
 plains-append (tok ∷ some) more = ap (λ marks. m.Plain ∷ marks) (plains-append some more)
 
 pub ruleset plain_walks = (noted-noted, noted-nil, append_assoc, append-nil, plains-append)
+
 pub ruleset walks = (noted-noted, noted-nil, append_assoc, append-nil)
+
 pub ruleset calls = (noted-noted, noted-nil, append_assoc, append-nil, invoked-noted)
+
 pub ruleset blocks = (noted-noted, noted-nil, append_assoc, append-nil, back-noted, back-entered, begun, opened-noted)
+
 pub ruleset variables = (noted-noted, noted-nil, append_assoc, append-nil, back-noted)
+
 pub ruleset points = (noted-noted, noted-nil, append_assoc, append-nil, awaited, pointed-noted)

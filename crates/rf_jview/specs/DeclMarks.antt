@@ -25,7 +25,7 @@ names_marks names = option_marks (behind_marks (many_marks type_name_marks)) nam
 abbrev pub param_marks : ℕ → ParamTree → List Mark
 param_marks back param =
     mods_marks param.mods ++ (type_marks param.sort
-      ++ m.Local (after (after back (mods_marks param.mods)) (type_marks param.sort)) ∷ dims_marks param.dims)
+    ++ m.Local (after (after back (mods_marks param.mods)) (type_marks param.sort)) ∷ dims_marks param.dims)
 
 abbrev pub more_params_marks : ℕ → List (Tok × ParamTree) → List Mark
 more_params_marks back [] = []

@@ -4,8 +4,7 @@ use Rattle.std.specs.List.{flat_map}
 use Rattle.rf_jtree.specs.declared.tokens.Tok.{Tok}
 use Rattle.rf_jtree.specs.DeclTrees.{ParamTree, ParamsTree, CtorCallTree, RetTree, Void, Value, BodyTree, Block, MemberTree, Init, Ctor, Method, Field, TypeDeclTree, ImportTree, UnitTree}
 use Rattle.rf_jtree.specs.DeclTrees.{names_yield, param_yield, params_yield, ctor_call_yield, ret_yield, member_yield, import_yield, package_yield}
-use Rattle.rf_jtree.specs.NameTrees.{ManyTree, NameTree, name_yield, type_yield, mods_yield, tok_yield, option_yield, many_yield}
-use Rattle.rf_jtree.specs.StmtTrees.{stmts_yield}
+use Rattle.rf_jtree.specs.NameTrees.{ManyTree, NameTree, name_yield, type_yield, mods_yield, tok_yield, option_yield}
 use Rattle.rf_jview.specs.ExprWith.{args_with}
 use Rattle.rf_jview.specs.Rewritings.{Rewriting, behind, retext, option_with, behind_with, list_with, many_with, type_with}
 use Rattle.rf_jview.specs.StmtWith.{vars_with, block_with, stmts_with}

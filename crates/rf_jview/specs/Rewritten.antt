@@ -12,4 +12,4 @@ pub data Rewritten (g : Rewriting) : ℕ → List Tok → List Tok → Type 0 wh
   text : (n : ℕ) (tok : Tok) → Rewritten g n (tok ∷ []) (retext g n tok ∷ [])
   type_name : (n : ℕ) (name : NameTree) → Rewritten g n (name_yield name) (name_yield (g.written n name))
   join : (n : ℕ) (olds news more_olds more_news : List Tok) → Rewritten g n olds news → Rewritten g (behind n olds) more_olds more_news
-    → Rewritten g n (olds ++ more_olds) (news ++ more_news)
+      → Rewritten g n (olds ++ more_olds) (news ++ more_news)

@@ -69,7 +69,7 @@ abbrev mutual
   stmt_marks back (Value value semi) = expr_marks value ++ m.Plain ∷ []
   stmt_marks back (If word left test right then other) =
       head_marks test ++ (stmt_marks (after back (head_marks test)) then
-        ++ other_marks (after (after back (head_marks test)) (stmt_marks (after back (head_marks test)) then)) other)
+      ++ other_marks (after (after back (head_marks test)) (stmt_marks (after back (head_marks test)) then)) other)
   stmt_marks back (While word left test right body) = head_marks test ++ stmt_marks (after back (head_marks test)) body
   stmt_marks back (Do word body until left test right semi) = m.Plain ∷ (stmt_marks (back + 1) body ++ (head_marks test ++ m.Plain ∷ []))
   stmt_marks back (For word left first semi1 test semi2 last right body) =

@@ -4,7 +4,7 @@ use Rattle.rf_jtree.specs.ExprTrees.{expr_yield, exprs_yield}
 use Rattle.rf_jtree.specs.NameTrees.{ManyTree, name_yield, type_yield, dims_yield, mods_yield, tok_yield, option_yield}
 use Rattle.rf_jtree.specs.StmtTrees.{VarTree, LocalTree, ForFirstTree, StmtTree, Block, Empty, Label, Value, If, While, Do, For, Each, Switch, Jump, Return, Throw, Sync, Assert, Try}
 use Rattle.rf_jtree.specs.StmtTrees.{BlockTree, Braces, StmtsTree, NoStmts, Stmts, OtherTree, NoOther, Other, GroupTree, Group, GroupsTree, NoGroups, Groups, CatchTree, Catch, CatchesTree, NoCatches, Catches, LastTree, NoLast, Last}
-use Rattle.rf_jtree.specs.StmtTrees.{var_yield, local_yield, first_yield, stmt_yield, block_yield, stmts_yield, group_yield, catch_yield, catches_yield}
+use Rattle.rf_jtree.specs.StmtTrees.{var_yield, first_yield, stmt_yield, block_yield, group_yield, catch_yield, catches_yield}
 use Rattle.rf_jview.specs.ExprWith.{expr_with, exprs_with, init_with}
 use Rattle.rf_jview.specs.Rewritings.{Rewriting, behind, retext, option_with, behind_with, many_with, type_with}
 

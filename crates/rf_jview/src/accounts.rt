@@ -104,9 +104,10 @@ pub fn open(account: &mut Account, start: Start, opening: Opening) -> Result<(),
     ensures { OnOk result (account.new ≡ opened opening start account.old) }
 {
     let back = added(start.back, account.back)?;
-    account
-        .list
-        .set(start.at, Mark::Opens(opening, account.back.saturating_sub(1)));
+    account.list.set(
+        start.at,
+        Mark::Opens(opening, account.back.saturating_sub(1)),
+    );
     account.back = back;
     Ok(())
 }

@@ -51,7 +51,7 @@ pub fn assertion(
 ) -> Result<(), Memory>
     ensures { OnOk result (account.new ≡ noted account.old
         (expr_marks (expr_shown test.now)
-            ++ option_marks (behind_marks expr_marks) (option_map message_shown told.now))) }
+        ++ option_marks (behind_marks expr_marks) (option_map message_shown told.now))) }
 {
     expr(test, account)?;
     message(told, account)
@@ -84,7 +84,7 @@ pub fn for_head(head: &ForHead, account: &mut Account) -> Result<(), Memory>
     requires { back_of account.old ≡ 1 }
     ensures { OnOk result (account.new ≡ noted account.old
         (for_head_marks (first_shown head.now.first) (optional_expr_shown head.now.test)
-            (exprs_shown head.now.last))) }
+        (exprs_shown head.now.last))) }
 {
     plain(account)?;
     first(&head.first, account)?;
@@ -106,7 +106,7 @@ fn over(tree: &Expr, account: &mut Account) -> Result<(), Memory>
 pub fn each_head(head: &EachHead, account: &mut Account) -> Result<(), Memory>
     ensures { OnOk result (account.new ≡ noted account.old
         (each_head_marks (mods_shown head.now.mods) (type_shown head.now.sort)
-            (boxed_expr_shown head.now.over))) }
+        (boxed_expr_shown head.now.over))) }
 {
     plain(account)?;
     plain(account)?;
@@ -116,11 +116,7 @@ pub fn each_head(head: &EachHead, account: &mut Account) -> Result<(), Memory>
 }
 
 /// `catch (T x)`.
-pub fn catch_head(
-    fixed: &Option<Tok>,
-    name: &Name,
-    account: &mut Account,
-) -> Result<(), Memory>
+pub fn catch_head(fixed: &Option<Tok>, name: &Name, account: &mut Account) -> Result<(), Memory>
     ensures { OnOk result (account.new ≡ noted account.old
         (catch_head_marks fixed.now (type_name_marks (name_shown name.now)))) }
 {

@@ -85,7 +85,7 @@ fn method_rest(
 ) -> Result<(), Memory>
     ensures { OnOk result (account.new ≡ noted account.old
         (callable_marks (params_shown front.now).list (option_map names_shown throws.now)
-            (body_marks (body_shown body.now)))) }
+        (body_marks (body_shown body.now)))) }
 {
     let start = enter(account)?;
     params(&front.list, account)?;
@@ -105,7 +105,7 @@ fn ctor_rest(
 ) -> Result<(), Memory>
     ensures { OnOk result (account.new ≡ noted account.old
         (callable_marks (params_shown front.now).list (option_map names_shown throws.now)
-            (ctor_body_marks (option_map ctor_call_shown call.now) (stmts_shown list.now)))) }
+        (ctor_body_marks (option_map ctor_call_shown call.now) (stmts_shown list.now)))) }
 {
     let start = enter(account)?;
     params(&front.list, account)?;

@@ -53,11 +53,7 @@ fn brace(declares: bool, account: &mut Account) -> Result<(), Memory>
     }
 }
 
-fn class_brace(
-    word: &Tok,
-    members: &List<Member>,
-    account: &mut Account,
-) -> Result<(), Memory>
+fn class_brace(word: &Tok, members: &List<Member>, account: &mut Account) -> Result<(), Memory>
     ensures { OnOk result (account.new ≡ noted account.old
         (brace_mark word.now (members_shown members.now) ∷ [])) }
 {
@@ -85,11 +81,7 @@ fn type_declaration(decl: &TypeDecl, account: &mut Account) -> Result<(), Memory
     plain(account)
 }
 
-fn import_name(
-    name: &Name,
-    star: &Option<(Tok, Tok)>,
-    account: &mut Account,
-) -> Result<(), Memory>
+fn import_name(name: &Name, star: &Option<(Tok, Tok)>, account: &mut Account) -> Result<(), Memory>
     ensures { OnOk result
         (account.new ≡ noted account.old (import_name_marks (name_shown name.now) star.now)) }
 {

@@ -1,5 +1,5 @@
 use Rattle.std.proofs.Common.{◌≡◌, drop}
-use Rattle.std.proofs.Common.{◌∷◌, []}
+use Rattle.std.proofs.Common.{◌∷◌}
 use Rattle.std.specs.List.{flat_map}
 use Rattle.rf_jview.specs.MarkWords.{plains}
 use Rattle.rf_jtree.specs.NameTrees.{tok_yield}

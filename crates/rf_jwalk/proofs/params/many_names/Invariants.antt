@@ -1,6 +1,5 @@
 use Rattle.std.proofs.Common.{◌≡◌, drop}
 use Rattle.std.specs.List.{flat_map}
-use Rattle.std.proofs.Common.{◌++◌}
 use Rattle.rf_jtree.specs.DeclShown.{more_names_shown}
 use Rattle.rf_jtree.specs.NameShown.{many_shown, name_shown}
 use Rattle.rf_jview.specs.Accounts.{noted}
@@ -9,4 +8,4 @@ use Rattle.rf_jwalk.proofs.params.many_names.Given as goal
 
 abbrev pub invariant-loop-item : goal.invariant-loop-item
 invariant-loop-item l = noted l.account (flat_map (behind_marks type_name_marks) (more_names_shown (drop l.item-index l.many.rest)))
-  ≡ noted l.fn.account (many_marks type_name_marks (many_shown name_shown l.many))
+    ≡ noted l.fn.account (many_marks type_name_marks (many_shown name_shown l.many))

@@ -6,4 +6,4 @@ use Rattle.rf_jwalk.proofs.params.more_params.Given as goal
 
 abbrev pub invariant-loop-item : goal.invariant-loop-item
 invariant-loop-item l = noted l.account (more_params_marks (back_of l.account) (more_params_shown (drop l.item-index l.rest)))
-  ≡ noted l.fn.account (more_params_marks (back_of l.fn.account) (more_params_shown l.rest))
+    ≡ noted l.fn.account (more_params_marks (back_of l.fn.account) (more_params_shown l.rest))

@@ -7,17 +7,17 @@ use Rattle.rf_jwalk.proofs.stmts.+stmt.Given as goal
 abbrev pub invariant-stmts-loop-one : goal.invariant-stmts-loop-one
 invariant-stmts-loop-one l =
     noted l.account (stmts_marks (back_of l.account) (stmts_shown (drop l.one-index l.list)))
-      ≡ noted l.fn.account (stmts_marks (back_of l.fn.account) (stmts_shown l.list))
+    ≡ noted l.fn.account (stmts_marks (back_of l.fn.account) (stmts_shown l.list))
 
 abbrev pub invariant-groups-loop-part : goal.invariant-groups-loop-part
 invariant-groups-loop-part l =
     noted l.account (groups_marks (back_of l.account) (groups_shown (drop l.part-index l.list)))
-      ≡ noted l.fn.account (groups_marks (back_of l.fn.account) (groups_shown l.list))
+    ≡ noted l.fn.account (groups_marks (back_of l.fn.account) (groups_shown l.list))
 
 abbrev pub invariant-catches-loop-part : goal.invariant-catches-loop-part
 invariant-catches-loop-part l =
     noted l.account (catches_marks (catches_shown (drop l.part-index l.list)))
-      ≡ noted l.fn.account (catches_marks (catches_shown l.list))
+    ≡ noted l.fn.account (catches_marks (catches_shown l.list))
 
 -- The size, and within it the steps from a list to its items.
 abbrev pub decreases-stmt : goal.decreases-stmt

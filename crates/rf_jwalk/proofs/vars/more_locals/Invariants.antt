@@ -7,4 +7,4 @@ use Rattle.rf_jwalk.proofs.vars.more_locals.Given as goal
 abbrev pub invariant-loop-item : goal.invariant-loop-item
 invariant-loop-item l =
     noted l.account (more_locals_marks (back_of l.account) (more_vars_shown (drop l.item-index l.rest)))
-      ≡ noted l.fn.account (more_locals_marks (back_of l.fn.account) (more_vars_shown l.rest))
+    ≡ noted l.fn.account (more_locals_marks (back_of l.fn.account) (more_vars_shown l.rest))
