@@ -1,5 +1,0 @@
-use Rattle.std.proofs.Common.{length}
-use Rattle.rf_jcheck.proofs.mod_checks.+is_new_to.Given as goal
-
-abbrev pub decreases-is_new_to : goal.decreases-is_new_to
-decreases-is_new_to l = length l.others.now

@@ -1,5 +1,0 @@
-use Rattle.std.proofs.Common.{length}
-use Rattle.rf_jcheck.proofs.mod_checks.+none_stands_twice.Given as goal
-
-abbrev pub decreases-none_stands_twice : goal.decreases-none_stands_twice
-decreases-none_stands_twice l = length l.mods.now
