@@ -5,8 +5,8 @@ use rf_jdecl::unit;
 use rf_jexpr::ParseErr;
 use rf_jtold::tokens;
 use rf_jtree::{Toks, Unit};
+use rf_junits::unit_walk;
 use rf_jview::{Invocation, Mark, Opening};
-use rf_jwalk::unit_walk;
 use rf_text::{Bytes, List, Memory};
 use std::alloc::Global;
 

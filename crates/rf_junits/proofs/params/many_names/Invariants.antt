@@ -4,7 +4,7 @@ use Rattle.rf_jtree.specs.DeclShown.{more_names_shown}
 use Rattle.rf_jtree.specs.NameShown.{many_shown, name_shown}
 use Rattle.rf_jview.specs.Accounts.{noted}
 use Rattle.rf_jview.specs.NameMarks.{type_name_marks, behind_marks, many_marks}
-use Rattle.rf_jwalk.proofs.params.many_names.Given as goal
+use Rattle.rf_junits.proofs.params.many_names.Given as goal
 
 abbrev pub invariant-loop-item : goal.invariant-loop-item
 invariant-loop-item l = noted l.account (flat_map (behind_marks type_name_marks) (more_names_shown (drop l.item-index l.many.rest)))

@@ -9,14 +9,14 @@ ghost use Rattle.rf_jview.specs.DeclMarks.{ctor_call_marks, ctor_opening, ctor_b
 ghost use Rattle.rf_jview.specs.NameMarks.{option_marks};
 
 use crate::params::{names, params};
-use crate::stmts::{block, stmts};
-use crate::vars::beginning;
 use rf_jtree::{Body, CtorCall, Many, Member, Name, Params, Ret, Stmt, Tok, Var};
 use rf_jview::accounts::{enter, note, open, plain};
 use rf_jview::exprs::args;
 use rf_jview::mods::{modifiers, optional_tok};
 use rf_jview::names::sort;
 use rf_jview::{Account, Invocation, Mark, Opening};
+use rf_jwalk::stmts::{block, stmts};
+use rf_jwalk::vars::beginning;
 use rf_text::{List, Memory};
 
 fn ctor_call(call: &Option<CtorCall>, account: &mut Account) -> Result<(), Memory>

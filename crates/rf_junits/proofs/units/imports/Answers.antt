@@ -7,7 +7,7 @@ use Rattle.rf_jview.specs.declared.accounts.Account.{Account}
 use Rattle.rf_jview.specs.Accounts.{noted}
 use Rattle.rf_jview.specs.DeclMarks.{import_marks}
 use Rattle.rf_jview.proofs.Walks.{noted-noted}
-use Rattle.rf_jwalk.proofs.units.imports.Goals as goal
+use Rattle.rf_junits.proofs.units.imports.Goals as goal
 
 step : (list : List Import) (i : ℕ) (item : Import) (account new : Account) → i < length list → item ≡ get_or list i item
     → new ≡ noted account (import_marks (import_shown item))
