@@ -2,6 +2,8 @@
 #![tactic(auto)]
 
 #[cfg(test)]
+mod calls;
+#[cfg(test)]
 mod in_memory;
 #[cfg(test)]
 mod of_the_system;
