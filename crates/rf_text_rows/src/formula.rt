@@ -6,7 +6,7 @@ use rf_text::{Boxed, List, Memory};
 use std::alloc::Global;
 
 #[derive(Drop)]
-pub enum Formula {
+pub(crate) enum Formula {
     True,
     Not(Boxed<Formula>),
     All(List<Formula>),
@@ -14,7 +14,7 @@ pub enum Formula {
 
 impl Formula {
     #[tactic(auto, using(crate::proofs::Meaning::meanings))]
-    pub fn holds(&self) -> bool
+    pub(crate) fn holds(&self) -> bool
         ensures { result ≡ meaning self.now }
     {
         match self {
@@ -32,7 +32,7 @@ impl Formula {
     }
 
     /// The same formula once more.
-    pub fn copy(&self, alloc: Global) -> Result<Formula, Memory>
+    pub(crate) fn copy(&self, alloc: Global) -> Result<Formula, Memory>
         ensures { IfOk result (λ formula. formula ≡ self.now) }
     {
         match self {

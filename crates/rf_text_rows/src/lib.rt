@@ -3,7 +3,7 @@
 
 #[cfg(test)]
 mod boxes;
-pub mod formula;
+mod formula;
 #[cfg(test)]
 mod lists;
 #[cfg(test)]

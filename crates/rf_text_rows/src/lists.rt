@@ -1,59 +1,90 @@
 //! Lists: changed at a place and at their end, walked and turned around.
 
-use rf_text::List;
-use std::test::Fail;
+use rf_text::{List, Memory};
+use std::alloc::Global;
 
-#[test]
-fn lists_change_at_a_place_and_at_their_end(rt: HostRuntime) -> Result<(), Fail> {
-    let alloc = rt.alloc();
-    let mut list = List::new(alloc);
-    assert!(rt; list.is_empty());
-    for item in [1u32, 2, 3] {
-        list.push(item)?;
+fn push_all(list: &mut List<u32>, items: &[u32]) -> Result<(), Memory> {
+    for item in items {
+        list.push(*item)?;
     }
-    list.append(List::from_vec([4, 5].to_vec(alloc)?))?;
-    assert_eq!(rt; list.as_slice(), [1, 2, 3, 4, 5].as_slice());
-    assert_eq!(rt; list.pop(), Some(5));
-    assert_eq!(rt; list.len(), 4);
+    Ok(())
+}
+
+/// Takes the last of 1 to 5, puts 7 in the second place, and leaves three.
+fn shortens(list: &mut List<u32>) -> bool {
+    let five = list.as_slice() == [1, 2, 3, 4, 5].as_slice();
+    let last = list.pop();
+    let four = list.len();
+    if four != 4 {
+        return false;
+    }
     list.set(1, 7);
     list.truncate(3);
-    assert_eq!(rt; list.get(1).copied(), Some(7));
-    assert_eq!(rt; list.get(3).copied(), None);
+    let second = list.get(1).copied();
+    five && last == Some(5) && second == Some(7) && list.get(3).is_none()
+}
+
+/// A list is empty, is given 1 to 5 and is shortened.
+fn grows_and_shortens(alloc: Global) -> Result<bool, Memory> {
+    let mut list = List::new(alloc);
+    let empty = list.is_empty();
+    push_all(&mut list, &[1, 2, 3])?;
+    list.append(List::from_vec([4, 5].to_vec(alloc)?))?;
+    let shortens = shortens(&mut list);
     let items = list.into_vec();
-    assert_eq!(rt; items.as_slice(), [1, 7, 3].as_slice());
-    let mut none = List::<u32>::new(alloc);
-    assert_eq!(rt; none.pop(), None);
-    Ok(())
+    Ok(empty && shortens && items.as_slice() == [1, 7, 3].as_slice())
 }
 
 #[test]
-fn an_item_is_lent(rt: HostRuntime) -> Result<(), Fail> {
-    let mut list = List::from_vec([1u32, 2, 3].to_vec(rt.alloc())?);
+fn lists_change_at_a_place_and_at_their_end(rt: HostRuntime) {
+    assert!(rt; matches!(grows_and_shortens(rt.alloc()), Ok(true)));
+}
+
+#[test]
+fn a_list_of_nothing_has_no_last_item(rt: HostRuntime) {
+    assert!(rt; List::<u32>::new(rt.alloc()).pop().is_none());
+}
+
+/// Adds 40 to the second of 1, 2 and 3.
+fn lends(list: &mut List<u32>) -> bool {
     if let Some(item) = list.get_mut(1) {
-        *item += 40;
+        *item = item.wrapping_add(40);
     }
-    assert!(rt; list.get_mut(3).is_none());
-    assert_eq!(rt; list.as_slice(), [1, 42, 3].as_slice());
-    Ok(())
+    list.get_mut(3).is_none() && list.as_slice() == [1, 42, 3].as_slice()
+}
+
+fn lends_from_a_list(alloc: Global) -> Result<bool, Memory> {
+    let mut list = List::from_vec([1u32, 2, 3].to_vec(alloc)?);
+    Ok(lends(&mut list))
 }
 
 #[test]
-fn a_list_is_walked_from_both_ends(rt: HostRuntime) -> Result<(), Fail> {
-    let alloc = rt.alloc();
-    let mut list = List::with_capacity(alloc, 3)?;
-    assert!(rt; list.is_empty());
-    for item in [4u32, 5, 6] {
-        list.push(item)?;
-    }
-    let mut seen = List::new(alloc);
+fn an_item_is_lent(rt: HostRuntime) {
+    assert!(rt; matches!(lends_from_a_list(rt.alloc()), Ok(true)));
+}
+
+/// The items as digits from the first to the last, and again from the last to the first.
+fn digits(list: &List<u32>) -> u64 {
+    let mut digits = 0u64;
     for item in list.iter() {
-        seen.push(*item)?;
+        digits = digits.wrapping_mul(10).wrapping_add(*item as u64);
     }
     for item in list.iter().rev() {
-        seen.push(*item)?;
+        digits = digits.wrapping_mul(10).wrapping_add(*item as u64);
     }
-    assert_eq!(rt; seen.as_slice(), [4, 5, 6, 6, 5, 4].as_slice());
+    digits
+}
+
+fn is_walked_and_turned(alloc: Global) -> Result<bool, Memory> {
+    let mut list = List::with_capacity(alloc, 3)?;
+    let empty = list.is_empty();
+    push_all(&mut list, &[4, 5, 6])?;
+    let walked = digits(&list);
     list.reverse();
-    assert_eq!(rt; list.as_slice(), [6, 5, 4].as_slice());
-    Ok(())
+    Ok(empty && walked == 456654 && list.as_slice() == [6, 5, 4].as_slice())
+}
+
+#[test]
+fn a_list_is_walked_from_both_ends(rt: HostRuntime) {
+    assert!(rt; matches!(is_walked_and_turned(rt.alloc()), Ok(true)));
 }

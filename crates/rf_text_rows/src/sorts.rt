@@ -2,10 +2,9 @@
 
 use rf_text::{Bytes, List, Memory};
 use std::alloc::Global;
-use std::test::Fail;
 
 /// A number with its place before sorting, which no comparison looks at.
-#[derive(Clone, Copy, Debug)]
+#[derive(Clone, Copy)]
 #[derive_where(PartialEq, Eq, PartialOrd, Ord)]
 struct Placed {
     number: u32,
@@ -50,41 +49,68 @@ fn falls_nowhere(list: &List<Placed>) -> bool {
     true
 }
 
-#[test]
-fn equal_items_keep_their_order(rt: HostRuntime) -> Result<(), Fail> {
-    for count in [0u32, 1, 2, 20, 21, 100] {
-        let mut list = in_turn(rt.alloc(), count)?;
-        list.sort()?;
-        assert_eq!(rt; list.len(), count as usize);
-        assert!(rt; rises(&list), "{count} items");
-    }
-    Ok(())
+/// How many items are sorted: none, few, and around the twenty from which another way is taken.
+const COUNTS: &[u32] = &[0, 1, 2, 20, 21, 100];
+
+/// Whether so many items rise by number, and then by their place before.
+fn sorts(alloc: Global, count: u32) -> Result<bool, Memory> {
+    let mut list = in_turn(alloc, count)?;
+    list.sort()?;
+    Ok(list.len() == count as usize && rises(&list))
+}
+
+/// Whether so many items rise by number where they are sorted in place.
+fn sorts_in_place(alloc: Global, count: u32) -> Result<bool, Memory> {
+    let mut list = in_turn(alloc, count)?;
+    list.sort_unstable();
+    Ok(list.len() == count as usize && falls_nowhere(&list))
 }
 
 #[test]
-fn items_are_sorted_in_place(rt: HostRuntime) -> Result<(), Fail> {
-    for count in [0u32, 1, 2, 20, 21, 100] {
-        let mut list = in_turn(rt.alloc(), count)?;
-        list.sort_unstable();
-        assert_eq!(rt; list.len(), count as usize);
-        assert!(rt; falls_nowhere(&list), "{count} items");
+fn equal_items_keep_their_order(rt: HostRuntime) {
+    for count in COUNTS {
+        assert!(rt; matches!(sorts(rt.alloc(), *count), Ok(true)));
     }
-    Ok(())
 }
 
 #[test]
-fn texts_are_sorted_by_their_bytes(rt: HostRuntime) -> Result<(), Fail> {
-    let alloc = rt.alloc();
-    let given: [&[u8]; 4] = [b"b", b"a text of many bytes", b"", b"ab"];
-    let sorted: [&[u8]; 4] = [b"", b"a text of many bytes", b"ab", b"b"];
+fn items_are_sorted_in_place(rt: HostRuntime) {
+    for count in COUNTS {
+        assert!(rt; matches!(sorts_in_place(rt.alloc(), *count), Ok(true)));
+    }
+}
+
+const GIVEN: &[&[u8]] = &[b"b", b"a text of many bytes", b"", b"ab"];
+
+const SORTED: &[&[u8]] = &[b"", b"a text of many bytes", b"ab", b"b"];
+
+fn texts(alloc: Global, given: &[&[u8]]) -> Result<List<Bytes>, Memory> {
     let mut texts = List::new(alloc);
     for text in given {
         texts.push(Bytes::from_slice(alloc, text)?)?;
     }
-    texts.sort_unstable();
-    assert_eq!(rt; texts.len(), sorted.len());
-    for i in 0..sorted.len() {
-        assert_eq!(rt; texts.get(i).map(|text| text.as_slice()), Some(sorted[i]));
+    Ok(texts)
+}
+
+/// Whether the list has these texts in this order.
+fn are(texts: &[Bytes], want: &[&[u8]]) -> bool {
+    let mut rest = want;
+    for text in texts {
+        match rest {
+            [first, others @ ..] if text.as_slice() == *first => rest = others,
+            _ => return false,
+        }
     }
-    Ok(())
+    rest.is_empty()
+}
+
+fn sorts_texts(alloc: Global) -> Result<bool, Memory> {
+    let mut texts = texts(alloc, GIVEN)?;
+    texts.sort_unstable();
+    Ok(are(texts.as_slice(), SORTED))
+}
+
+#[test]
+fn texts_are_sorted_by_their_bytes(rt: HostRuntime) {
+    assert!(rt; matches!(sorts_texts(rt.alloc()), Ok(true)));
 }

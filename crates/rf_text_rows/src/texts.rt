@@ -18,49 +18,65 @@ fn given(alloc: Global, bytes: &[u8]) -> Result<Bytes, Memory> {
     Bytes::from_vec(alloc, items)
 }
 
-#[test]
-fn few_bytes_and_many_are_read_back_and_copied(rt: HostRuntime) -> Result<(), Fail> {
-    let alloc = rt.alloc();
-    let cases: [&[u8]; 6] = [
-        b"",
-        b"x",
-        b"thirteen.....",
-        b"fourteen......",
-        b"fifteen........",
-        b"a text of more than fifteen bytes",
-    ];
-    for bytes in cases {
-        let text = Bytes::from_slice(alloc, bytes)?;
-        assert_eq!(rt; text.as_slice(), bytes);
-        assert_eq!(rt; text.copy(alloc)?.as_slice(), bytes);
-        assert_eq!(rt; text.is_empty(), bytes.is_empty());
-        assert_eq!(rt; given(alloc, bytes)?.copy(alloc)?.as_slice(), bytes);
-        assert_eq!(rt; grown(alloc, bytes, bytes)?.len(), 2 * bytes.len() + 1);
-    }
-    Ok(())
+/// Texts of few bytes and of many, around the most that a text keeps in itself.
+const LENGTHS: &[&[u8]] = &[
+    b"",
+    b"x",
+    b"thirteen.....",
+    b"fourteen......",
+    b"fifteen........",
+    b"a text of more than fifteen bytes",
+];
+
+/// Whether the text is read as these bytes, and so is its copy.
+fn reads(alloc: Global, text: &Bytes, bytes: &[u8]) -> Result<bool, Memory> {
+    let copied = text.copy(alloc)?.as_slice() == bytes;
+    Ok(copied && text.as_slice() == bytes && text.is_empty() == bytes.is_empty())
+}
+
+/// Whether texts of these bytes, made of a slice and of a vector, are read back.
+fn are_read_back(alloc: Global, bytes: &[u8]) -> Result<bool, Memory> {
+    let made = reads(alloc, &Bytes::from_slice(alloc, bytes)?, bytes)?;
+    Ok(made && reads(alloc, &given(alloc, bytes)?, bytes)?)
+}
+
+/// Whether a text with as many bytes once more and `!` has the length of all of them.
+fn doubles(alloc: Global, bytes: &[u8]) -> Result<bool, Memory> {
+    Ok(grown(alloc, bytes, bytes)?.len() == 2 * bytes.len() + 1)
 }
 
 #[test]
-fn bytes_grow_at_their_end(rt: HostRuntime) -> Result<(), Fail> {
-    let alloc = rt.alloc();
-    let cases: [(&[u8], &[u8], &[u8]); 4] = [
-        (b"", b"", b"!"),
-        (b"", b" A", b" A!"),
-        (b"class", b"\xff\0", b"class\xff\0!"),
-        (b"fifteen bytes..", b" A", b"fifteen bytes.. A!"),
-    ];
-    for (first, more, want) in cases {
-        let text = grown(alloc, first, more)?;
-        assert_eq!(rt; text.as_slice(), want);
-        assert_eq!(rt; text.len(), want.len());
-        assert!(rt; !text.is_empty());
+fn few_bytes_and_many_are_read_back_and_copied(rt: HostRuntime) {
+    for bytes in LENGTHS {
+        assert!(rt; matches!(are_read_back(rt.alloc(), bytes), Ok(true)));
+        assert!(rt; matches!(doubles(rt.alloc(), bytes), Ok(true)));
     }
-    assert!(rt; Bytes::new(alloc).is_empty());
-    Ok(())
+}
+
+/// Bytes, further bytes, and both with `!` behind them.
+const GROWING: &[(&[u8], &[u8], &[u8])] = &[
+    (b"", b"", b"!"),
+    (b"", b" A", b" A!"),
+    (b"class", b"\xff\0", b"class\xff\0!"),
+    (b"fifteen bytes..", b" A", b"fifteen bytes.. A!"),
+];
+
+/// Whether the text that has grown is the wanted one.
+fn grows(alloc: Global, first: &[u8], more: &[u8], want: &[u8]) -> Result<bool, Memory> {
+    let text = grown(alloc, first, more)?;
+    Ok(text.as_slice() == want && text.len() == want.len() && !text.is_empty())
+}
+
+#[test]
+fn bytes_grow_at_their_end(rt: HostRuntime) {
+    for (first, more, want) in GROWING {
+        assert!(rt; matches!(grows(rt.alloc(), first, more, want), Ok(true)));
+    }
+    assert!(rt; Bytes::new(rt.alloc()).is_empty());
 }
 
 /// Places around the most bytes that a text keeps in itself, in the order of their bytes.
-const RISING: [&[u8]; 9] = [
+const RISING: &[&[u8]] = &[
     b"",
     b"\0",
     b"a",
@@ -72,24 +88,37 @@ const RISING: [&[u8]; 9] = [
     b"\xff",
 ];
 
-#[test]
-fn texts_are_ordered_by_their_bytes(rt: HostRuntime) -> Result<(), Fail> {
-    let alloc = rt.alloc();
-    for i in 0..RISING.len() {
-        for k in 0..RISING.len() {
-            let one = Bytes::from_slice(alloc, RISING[i])?;
-            let other = given(alloc, RISING[k])?;
-            assert_eq!(rt; one.cmp(&other), i.cmp(&k));
-            assert_eq!(rt; one.partial_cmp(&other), Some(i.cmp(&k)));
-            assert_eq!(rt; one == other, i == k);
+/// Whether both texts compare as their places do.
+fn compare(one: &Bytes, other: &Bytes, at: usize, place: usize) -> bool {
+    let order = at.cmp(&place);
+    one.cmp(other) == order
+        && one.partial_cmp(other) == Some(order)
+        && (*one == *other) == (at == place)
+}
+
+/// Whether the text at this place compares with each as its place does.
+fn is_ordered(alloc: Global, at: usize, bytes: &[u8]) -> Result<bool, Memory> {
+    let one = Bytes::from_slice(alloc, bytes)?;
+    let mut place = 0;
+    for other in RISING {
+        if !compare(&one, &given(alloc, other)?, at, place) {
+            return Ok(false);
         }
+        place = place.wrapping_add(1);
     }
-    Ok(())
+    Ok(true)
+}
+
+#[test]
+fn texts_are_ordered_by_their_bytes(rt: HostRuntime) {
+    for at in 0..RISING.len() {
+        assert!(rt; matches!(is_ordered(rt.alloc(), at, RISING[at]), Ok(true)));
+    }
 }
 
 #[test]
 fn want_of_memory_has_a_text(rt: HostRuntime) -> Result<(), Fail> {
     let text = format!(in rt.alloc(); "{Memory}")?;
-    assert_eq!(rt; text.as_str(), "out of memory");
+    assert!(rt; text.as_str() == "out of memory");
     Ok(())
 }

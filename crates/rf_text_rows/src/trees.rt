@@ -2,7 +2,6 @@
 
 use rf_text::{Bytes, List, Memory};
 use std::alloc::Global;
-use std::test::Fail;
 
 /// A tree that leads back to itself through a list.
 #[derive(Drop)]
@@ -30,19 +29,34 @@ fn leaf(alloc: Global, name: &[u8]) -> Result<Tree, Memory> {
     Ok(Tree::Leaf(Bytes::from_slice(alloc, name)?))
 }
 
-#[test]
-fn a_tree_of_lists_is_built_and_walked(rt: HostRuntime) -> Result<(), Fail> {
-    let alloc = rt.alloc();
-    let mut inner = List::new(alloc);
-    inner.push(leaf(alloc, b"b")?)?;
-    inner.push(leaf(alloc, b"c")?)?;
-    let mut outer = List::new(alloc);
-    outer.push(Tree::Node(Bytes::from_slice(alloc, b"a")?, inner))?;
-    outer.push(leaf(alloc, b"d")?)?;
-    outer.push(Tree::Node(Bytes::from_slice(alloc, b"e")?, List::new(alloc)))?;
-    let tree = Tree::Node(Bytes::new(alloc), outer);
+fn node(alloc: Global, name: &[u8], children: List<Tree>) -> Result<Tree, Memory> {
+    Ok(Tree::Node(Bytes::from_slice(alloc, name)?, children))
+}
+
+/// `a(bc)`
+fn inner(alloc: Global) -> Result<Tree, Memory> {
+    let mut children = List::new(alloc);
+    children.push(leaf(alloc, b"b")?)?;
+    children.push(leaf(alloc, b"c")?)?;
+    node(alloc, b"a", children)
+}
+
+/// `(a(bc)de())`
+fn outer(alloc: Global) -> Result<Tree, Memory> {
+    let mut children = List::new(alloc);
+    children.push(inner(alloc)?)?;
+    children.push(leaf(alloc, b"d")?)?;
+    children.push(node(alloc, b"e", List::new(alloc))?)?;
+    node(alloc, b"", children)
+}
+
+fn is_written(alloc: Global) -> Result<bool, Memory> {
     let mut text = Bytes::new(alloc);
-    write(&tree, &mut text)?;
-    assert_eq!(rt; text.as_slice(), b"(a(bc)de())".as_slice());
-    Ok(())
+    write(&outer(alloc)?, &mut text)?;
+    Ok(text.as_slice() == b"(a(bc)de())".as_slice())
+}
+
+#[test]
+fn a_tree_of_lists_is_built_and_walked(rt: HostRuntime) {
+    assert!(rt; matches!(is_written(rt.alloc()), Ok(true)));
 }
