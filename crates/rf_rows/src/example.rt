@@ -41,8 +41,33 @@ fn numbers(alloc: Global, numbers: &[u64]) -> Result<List<u64>, Memory> {
     Ok(list)
 }
 
+/// A world in which the calls of these numbers fail.
+pub(crate) fn failing_world(alloc: Global, failing: &[u64]) -> Result<MemWorld, Memory> {
+    Ok(MemWorld::new(alloc, numbers(alloc, failing)?))
+}
+
+/// A sink at which the puts of these numbers fail.
+pub(crate) fn failing_sink(alloc: Global, failing: &[u64]) -> Result<MemSink, Memory> {
+    Ok(MemSink::new(alloc, numbers(alloc, failing)?))
+}
+
+/// Puts the files into the world, and says whether there was memory for them.
+pub(crate) fn is_filled(
+    alloc: Global,
+    world: &mut MemWorld,
+    files: &[(&str, &str, &[u8])],
+) -> bool {
+    for (root, path, bytes) in files {
+        let put = world.put_file(alloc, root.as_bytes(), path.as_bytes(), bytes);
+        if put.is_err() {
+            return false;
+        }
+    }
+    true
+}
+
 /// Whether this file stands in the world with these bytes.
-fn stands(world: &MemWorld, root: &str, path: &str, bytes: &[u8]) -> bool {
+pub(crate) fn stands(world: &MemWorld, root: &str, path: &str, bytes: &[u8]) -> bool {
     for file in world.files().as_slice() {
         if file.0.as_slice() == root.as_bytes() && file.1.as_slice() == path.as_bytes() {
             return file.2.as_slice() == bytes;
@@ -51,54 +76,58 @@ fn stands(world: &MemWorld, root: &str, path: &str, bytes: &[u8]) -> bool {
     false
 }
 
-/// Runs the example over a world and a sink in memory, and compares status, line and every file.
-pub(crate) fn check<R: Abort + AllocGlobal>(rt: &R, example: &Example<'_>) -> Result<(), Fail> {
-    let alloc = rt.alloc();
-    let name = example.name;
-    let mut world = MemWorld::new(alloc, numbers(alloc, example.failing)?);
-    for (root, path, bytes) in example.files {
-        world.put_file(alloc, root.as_bytes(), path.as_bytes(), bytes)?;
+/// Whether these files stand in the world, and beside them exactly what was written.
+fn are_all(
+    world: &MemWorld,
+    files: &[(&str, &str, &[u8])],
+    written: Option<(&str, &str, &[u8])>,
+) -> bool {
+    for (root, path, bytes) in files {
+        if !stands(world, root, path, bytes) {
+            return false;
+        }
     }
-    let mut sink = MemSink::new(alloc, numbers(alloc, example.failing_puts)?);
-    let words = words(alloc, example.words)?;
-    let status = run(alloc, words.as_slice(), &mut world, &mut sink);
-    assert_eq!(rt; status.code(), example.status, "{name}");
-    assert!(rt;
-        sink.bytes().as_slice() == example.line.as_bytes(),
-        "{name}"
-    );
-    for (root, path, bytes) in example.files {
-        assert!(rt; stands(&world, root, path, bytes), "{name}");
-    }
-    match example.written {
+    match written {
         Some((root, path, bytes)) => {
-            assert_eq!(rt;
-                world.files().len(),
-                example.files.len().wrapping_add(1),
-                "{name}"
-            );
-            assert!(rt; stands(&world, root, path, bytes), "{name}");
+            stands(world, root, path, bytes) && world.files().len() == files.len().wrapping_add(1)
         }
-        None => {
-            assert_eq!(rt; world.files().len(), example.files.len(), "{name}");
-        }
+        None => world.files().len() == files.len(),
     }
-    Ok(())
 }
 
-/// Runs the request over one file `A.java`: the status, and whether these bytes then stand under `out`.
-pub(crate) fn status_and_file<R: Abort + AllocGlobal>(
-    rt: &R,
-    class: &[u8],
-    request: &[u8],
-    wanted: &[u8],
-) -> Result<(u8, bool), Fail> {
-    let alloc = rt.alloc();
-    let mut world = MemWorld::new(alloc, List::new(alloc));
-    world.put_file(alloc, b"src", b"A.java", class)?;
-    world.put_file(alloc, b"", b"req", request)?;
-    let mut sink = MemSink::new(alloc, List::new(alloc));
-    let words = words(alloc, APPLY)?;
-    let status = run(alloc, words.as_slice(), &mut world, &mut sink);
-    Ok((status.code(), stands(&world, "out", "A.java", wanted)))
+/// Whether the run over the world ends with this status and puts this line into the sink.
+pub(crate) fn ends<W: World, S: Sink>(
+    alloc: Global,
+    given: &[&str],
+    world: &mut W,
+    sink: &mut S,
+    status: u8,
+) -> Result<bool, Memory> {
+    let words = words(alloc, given)?;
+    Ok(run(alloc, words.as_slice(), world, sink).code() == status)
+}
+
+/// Whether the run over the world ends with the example's status and puts its line.
+fn says(alloc: Global, example: &Example<'_>, world: &mut MemWorld) -> Result<bool, Memory> {
+    let mut sink = failing_sink(alloc, example.failing_puts)?;
+    let ends = ends(alloc, example.words, world, &mut sink, example.status)?;
+    Ok(ends && sink.bytes().as_slice() == example.line.as_bytes())
+}
+
+/// Whether the example over a world and a sink in memory gives its status, its line and every file.
+fn holds(alloc: Global, example: &Example<'_>) -> Result<bool, Memory> {
+    let mut world = failing_world(alloc, example.failing)?;
+    if !is_filled(alloc, &mut world, example.files) {
+        return Err(Memory);
+    }
+    let says = says(alloc, example, &mut world)?;
+    Ok(says && are_all(&world, example.files, example.written))
+}
+
+pub(crate) fn check<R: Abort + AllocGlobal>(rt: &R, examples: &[Example<'_>]) -> Result<(), Fail> {
+    for example in examples {
+        let name = example.name;
+        assert!(rt; holds(rt.alloc(), example)?, "{name}");
+    }
+    Ok(())
 }

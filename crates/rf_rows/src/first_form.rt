@@ -1,5 +1,5 @@
-use crate::example::{APPLY, Example, check, status_and_file, words};
-use rf_cli::run;
+use crate::example::{APPLY, Example, check, ends, failing_sink, failing_world, stands};
+use rf_text::Memory;
 use rf_world::{HonestSink, HonestWorld};
 use std::alloc::Global;
 use std::test::Fail;
@@ -23,49 +23,46 @@ const RENAME: Example<'static> = Example {
     written: Some(("out", "A.java", RENAMED)),
 };
 
+const ANSWERS: &[Example<'static>] = &[
+    RENAME,
+    Example {
+        name: "the old name again changes nothing",
+        files: &[
+            ("src", "A.java", CLASS),
+            ("", "req", b"rename field A.f to f"),
+        ],
+        line: "ok 0\n",
+        written: Some(("out", "A.java", CLASS)),
+        ..RENAME
+    },
+    Example {
+        name: "the name of another field is refused",
+        files: &[
+            ("src", "A.java", b"class A{int f;int g;}"),
+            ("", "req", TO_G),
+        ],
+        status: 1,
+        line: "refused A.f A.g\n",
+        written: None,
+        ..RENAME
+    },
+    Example {
+        name: "files that are no Java files don't count",
+        files: &[
+            ("src", "A.java", CLASS),
+            ("src", "notes.txt", b"x"),
+            ("src", "package-info.java", b"x"),
+            ("lib", "B.java", b"x"),
+            ("", "req", TO_G),
+        ],
+        ..RENAME
+    },
+];
+
 #[test]
 fn answers_of_the_first_form(rt: HostRuntime) -> Result<(), Fail> {
-    check(&rt, &RENAME)?;
-    check(
-        &rt,
-        &Example {
-            name: "the old name again changes nothing",
-            files: &[
-                ("src", "A.java", CLASS),
-                ("", "req", b"rename field A.f to f"),
-            ],
-            line: "ok 0\n",
-            written: Some(("out", "A.java", CLASS)),
-            ..RENAME
-        },
-    )?;
-    check(
-        &rt,
-        &Example {
-            name: "the name of another field is refused",
-            files: &[
-                ("src", "A.java", b"class A{int f;int g;}"),
-                ("", "req", TO_G),
-            ],
-            status: 1,
-            line: "refused A.f A.g\n",
-            written: None,
-            ..RENAME
-        },
-    )
+    check(&rt, ANSWERS)
 }
-
-const BAD_WORDS: [&[&str]; 9] = [
-    &[],
-    &["apply", "src", "-", "src", "req"],
-    &["apply", "src", "lib", "lib", "req"],
-    &["apply", "src", "-", "-", "req"],
-    &["apply", "src", "-", "out"],
-    &["apply", "src", "-", "out", "req", "more"],
-    &["apply", "src", "", "out", "req"],
-    &["bind", "src", "-", "out", "req"],
-    &["Apply", "src", "-", "out", "req"],
-];
 
 const NO_COMMAND: Example<'static> = Example {
     name: "bad words",
@@ -75,136 +72,170 @@ const NO_COMMAND: Example<'static> = Example {
     ..RENAME
 };
 
+const BAD_WORDS: &[Example<'static>] = &[
+    Example {
+        words: &[],
+        ..NO_COMMAND
+    },
+    Example {
+        words: &["apply", "src", "-", "src", "req"],
+        ..NO_COMMAND
+    },
+    Example {
+        words: &["apply", "src", "lib", "lib", "req"],
+        ..NO_COMMAND
+    },
+    Example {
+        words: &["apply", "src", "-", "-", "req"],
+        ..NO_COMMAND
+    },
+    Example {
+        words: &["apply", "src", "-", "out"],
+        ..NO_COMMAND
+    },
+    Example {
+        words: &["apply", "src", "-", "out", "req", "more"],
+        ..NO_COMMAND
+    },
+    Example {
+        words: &["apply", "src", "", "out", "req"],
+        ..NO_COMMAND
+    },
+    Example {
+        words: &["bind", "src", "-", "out", "req"],
+        ..NO_COMMAND
+    },
+    Example {
+        words: &["Apply", "src", "-", "out", "req"],
+        ..NO_COMMAND
+    },
+];
+
 #[test]
 fn bad_words(rt: HostRuntime) -> Result<(), Fail> {
-    for words in BAD_WORDS {
-        check(
-            &rt,
-            &Example {
-                words,
-                ..NO_COMMAND
-            },
-        )?;
-    }
-    Ok(())
+    check(&rt, BAD_WORDS)
 }
+
+const READ_FAULT: Example<'static> = Example {
+    name: "a failing read",
+    status: 7,
+    line: "read fault\n",
+    written: None,
+    ..RENAME
+};
+
+const FAILING_CALLS: &[Example<'static>] = &[
+    Example {
+        failing: &[0],
+        ..READ_FAULT
+    },
+    Example {
+        failing: &[1],
+        ..READ_FAULT
+    },
+    Example {
+        failing: &[2],
+        ..READ_FAULT
+    },
+    Example {
+        name: "no request",
+        files: &[("src", "A.java", CLASS)],
+        ..READ_FAULT
+    },
+    Example {
+        name: "a failing write leaves half of the bytes",
+        failing: &[3],
+        status: 8,
+        line: "write fault\n",
+        written: Some(("out", "A.java", b"class A{int")),
+        ..RENAME
+    },
+    Example {
+        name: "a failing put",
+        failing_puts: &[0],
+        status: 8,
+        line: "",
+        ..RENAME
+    },
+];
 
 #[test]
 fn failing_calls(rt: HostRuntime) -> Result<(), Fail> {
-    let reads: [&[u64]; 3] = [&[0], &[1], &[2]];
-    for failing in reads {
-        check(
-            &rt,
-            &Example {
-                name: "a failing read",
-                failing,
-                status: 7,
-                line: "read fault\n",
-                written: None,
-                ..RENAME
-            },
-        )?;
-    }
-    check(
-        &rt,
-        &Example {
-            name: "a failing write leaves half of the bytes",
-            failing: &[3],
-            status: 8,
-            line: "write fault\n",
-            written: Some(("out", "A.java", b"class A{int")),
-            ..RENAME
-        },
-    )?;
-    check(
-        &rt,
-        &Example {
-            name: "a failing put",
-            failing_puts: &[0],
-            status: 8,
-            line: "",
-            ..RENAME
-        },
-    )?;
-    check(
-        &rt,
-        &Example {
-            name: "no request",
-            files: &[("src", "A.java", CLASS)],
-            status: 7,
-            line: "read fault\n",
-            written: None,
-            ..RENAME
-        },
-    )
+    check(&rt, FAILING_CALLS)
 }
 
-#[test]
-fn not_yet(rt: HostRuntime) -> Result<(), Fail> {
-    let not_yet = Example {
-        name: "a library",
-        words: &["apply", "src", "lib", "out", "req"],
-        status: 12,
-        line: "not yet\n",
-        written: None,
-        ..RENAME
-    };
-    check(&rt, &not_yet)?;
-    let files: [&[(&str, &str, &[u8])]; 9] = [
-        &[
+const LIBRARY: Example<'static> = Example {
+    name: "a library",
+    words: &["apply", "src", "lib", "out", "req"],
+    status: 12,
+    line: "not yet\n",
+    written: None,
+    ..RENAME
+};
+
+const NOT_OF_THE_FORM: Example<'static> = Example {
+    name: "not of the first form",
+    words: APPLY,
+    ..LIBRARY
+};
+
+const NOT_YET: &[Example<'static>] = &[
+    LIBRARY,
+    Example {
+        files: &[
             ("src", "A.java", b"class A{int f;int m(int g){return f;}}"),
             ("", "req", TO_G),
         ],
-        &[("src", "B.java", CLASS), ("", "req", TO_G)],
-        &[("src", "A.java", CLASS), ("", "req", b"")],
-        &[
+        ..NOT_OF_THE_FORM
+    },
+    Example {
+        files: &[("src", "B.java", CLASS), ("", "req", TO_G)],
+        ..NOT_OF_THE_FORM
+    },
+    Example {
+        files: &[("src", "A.java", CLASS), ("", "req", b"")],
+        ..NOT_OF_THE_FORM
+    },
+    Example {
+        files: &[
             ("src", "A.java", CLASS),
             ("", "req", b"rename field A.f to \xff"),
         ],
-        &[("src", "A.java", b"class A{int f;}\xff"), ("", "req", TO_G)],
-        &[("src", "A.java", b""), ("", "req", TO_G)],
-        &[("", "req", TO_G)],
-        &[
+        ..NOT_OF_THE_FORM
+    },
+    Example {
+        files: &[("src", "A.java", b"class A{int f;}\xff"), ("", "req", TO_G)],
+        ..NOT_OF_THE_FORM
+    },
+    Example {
+        files: &[("src", "A.java", b""), ("", "req", TO_G)],
+        ..NOT_OF_THE_FORM
+    },
+    Example {
+        files: &[("", "req", TO_G)],
+        ..NOT_OF_THE_FORM
+    },
+    Example {
+        files: &[
             ("src", "A.java", CLASS),
             ("src", "B.java", b"class B{}"),
             ("", "req", TO_G),
         ],
-        &[
+        ..NOT_OF_THE_FORM
+    },
+    Example {
+        files: &[
             ("src", "package-info.java", CLASS),
             ("src", "p/module-info.java", CLASS),
             ("", "req", TO_G),
         ],
-    ];
-    for files in files {
-        check(
-            &rt,
-            &Example {
-                name: "not of the first form",
-                words: APPLY,
-                files,
-                ..not_yet
-            },
-        )?;
-    }
-    Ok(())
-}
+        ..NOT_OF_THE_FORM
+    },
+];
 
 #[test]
-fn other_files_do_not_count(rt: HostRuntime) -> Result<(), Fail> {
-    check(
-        &rt,
-        &Example {
-            name: "a file that is no Java file",
-            files: &[
-                ("src", "A.java", CLASS),
-                ("src", "notes.txt", b"x"),
-                ("src", "package-info.java", b"x"),
-                ("lib", "B.java", b"x"),
-                ("", "req", TO_G),
-            ],
-            ..RENAME
-        },
-    )
+fn not_yet(rt: HostRuntime) -> Result<(), Fail> {
+    check(&rt, NOT_YET)
 }
 
 /// A text with so many spaces before its last byte that it is `length` bytes long.
@@ -219,41 +250,80 @@ fn padded(alloc: Global, text: &[u8], length: usize) -> Result<Vec<u8>, Fail> {
     Ok(padded)
 }
 
+/// Whether the run over one file `A.java` ends with this status, and makes this file, or none, under `out`.
+fn gives(
+    alloc: Global,
+    class: &[u8],
+    request: &[u8],
+    status: u8,
+    made: Option<&[u8]>,
+) -> Result<bool, Memory> {
+    let mut world = failing_world(alloc, &[])?;
+    let class = world.put_file(alloc, b"src", b"A.java", class);
+    let request = world.put_file(alloc, b"", b"req", request);
+    if class.is_err() || request.is_err() {
+        return Err(Memory);
+    }
+    let mut sink = failing_sink(alloc, &[])?;
+    let ends = ends(alloc, APPLY, &mut world, &mut sink, status)?;
+    match made {
+        Some(bytes) => Ok(ends && stands(&world, "out", "A.java", bytes)),
+        None => Ok(ends && world.files().len() == 2),
+    }
+}
+
 #[test]
-fn the_greatest_sizes(rt: HostRuntime) -> Result<(), Fail> {
+fn a_class_of_1048576_bytes_is_read(rt: HostRuntime) -> Result<(), Fail> {
     let within = padded(rt.alloc(), CLASS, 1_048_576)?;
     let renamed = padded(rt.alloc(), RENAMED, 1_048_576)?;
-    assert_eq!(rt;
-        status_and_file(&rt, within.as_slice(), TO_G, renamed.as_slice())?,
-        (0, true)
-    );
+    let made = Some(renamed.as_slice());
+    let gives = gives(rt.alloc(), within.as_slice(), TO_G, 0, made);
+    assert!(rt; matches!(gives, Ok(true)));
+    Ok(())
+}
+
+#[test]
+fn a_longer_class_is_not_read(rt: HostRuntime) -> Result<(), Fail> {
     let over = padded(rt.alloc(), CLASS, 1_048_577)?;
-    assert_eq!(rt;
-        status_and_file(&rt, over.as_slice(), TO_G, b"")?,
-        (12, false)
-    );
-    let mut request = Vec::new(rt.alloc());
-    request.extend_from_slice(b"rename field A.f to g")?;
-    for _ in 21..65_537 {
-        request.push(b'g')?;
-    }
-    assert_eq!(rt;
-        status_and_file(&rt, CLASS, request.as_slice(), b"")?,
-        (12, false)
+    assert!(rt; matches!(gives(rt.alloc(), over.as_slice(), TO_G, 12, None), Ok(true)));
+    Ok(())
+}
+
+#[test]
+fn a_request_has_at_most_65536_bytes(rt: HostRuntime) -> Result<(), Fail> {
+    let mut request = Vec::from_slice(rt.alloc(), TO_G)?;
+    request.resize(65_537, b'g')?;
+    assert!(rt;
+        matches!(
+            gives(rt.alloc(), CLASS, request.as_slice(), 12, None),
+            Ok(true)
+        )
     );
     Ok(())
+}
+
+fn is_filled(alloc: Global, world: &mut HonestWorld) -> bool {
+    for (root, path, bytes) in ALONE {
+        let put = world.put_file(alloc, root.as_bytes(), path.as_bytes(), bytes);
+        if put.is_err() {
+            return false;
+        }
+    }
+    true
+}
+
+/// Whether the run over an honest world renames the field.
+fn is_answered(alloc: Global, world: &mut HonestWorld) -> Result<bool, Memory> {
+    let mut sink = HonestSink::new(alloc);
+    let ends = ends(alloc, APPLY, world, &mut sink, 0)?;
+    Ok(ends && sink.bytes().as_slice() == b"ok 1\nname field A.f f g\n".as_slice())
 }
 
 #[test]
 fn an_honest_world_answers(rt: HostRuntime) -> Result<(), Fail> {
     let mut world = HonestWorld::new(rt.alloc());
-    for (root, path, bytes) in ALONE {
-        world.put_file(rt.alloc(), root.as_bytes(), path.as_bytes(), bytes)?;
-    }
-    let mut sink = HonestSink::new(rt.alloc());
-    let words = words(rt.alloc(), APPLY)?;
-    let status = run(rt.alloc(), words.as_slice(), &mut world, &mut sink);
-    assert_eq!(rt; status.code(), 0);
-    assert!(rt; sink.bytes().as_slice() == b"ok 1\nname field A.f f g\n".as_slice());
+    let filled = is_filled(rt.alloc(), &mut world);
+    let answered = is_answered(rt.alloc(), &mut world)?;
+    assert!(rt; filled && answered);
     Ok(())
 }
