@@ -1,95 +1,86 @@
-use crate::calls::{
-    list_fails, lists, lists_one, put_fails, puts, read_fails, reads, write_fails, writes,
-};
-use rf_text::List;
-use rf_world::{HonestSink, HonestWorld, MemSink, MemWorld};
-use std::alloc::Global;
+use rf_text::{Bytes, List};
+use rf_world::{HonestSink, HonestWorld, MemSink, MemWorld, Sink, SinkErr, World, WorldErr};
 use std::test::Fail;
 
-fn takes_files(alloc: Global, world: &mut MemWorld) -> bool {
-    world
-        .put_file(alloc, b"src", b"a/A.java", b"class A{}")
-        .is_ok()
-        && world
-            .put_file(alloc, b"lib", b"B.java", b"class B{}")
-            .is_ok()
-        && writes(alloc, world, b"src", b"B.java", b"class B{int b;}")
-        && writes(alloc, world, b"src", b"a/A.java", b"interface A{}")
-        && world.files().len() == 3
-}
-
-fn tells_files(alloc: Global, world: &mut MemWorld) -> bool {
-    lists(alloc, world, b"src", b"a/A.java", b"B.java")
-        && reads(alloc, world, b"src", b"a/A.java", b"interface A{}")
-        && reads(alloc, world, b"lib", b"B.java", b"class B{}")
-        && read_fails(alloc, world, b"lib", b"A.java")
+/// Whether the list has exactly these two paths, in either order.
+pub(crate) fn are_both(paths: &List<Bytes>, one: &[u8], other: &[u8]) -> bool {
+    match paths.as_slice() {
+        [first, second] => {
+            (first.as_slice() == one && second.as_slice() == other)
+                || (first.as_slice() == other && second.as_slice() == one)
+        }
+        _ => false,
+    }
 }
 
 #[test]
 fn a_world_in_memory_holds_files(rt: HostRuntime) -> Result<(), Fail> {
-    let mut world = MemWorld::new(rt.alloc(), List::new(rt.alloc()));
-    let takes = takes_files(rt.alloc(), &mut world);
-    let tells = tells_files(rt.alloc(), &mut world);
-    assert!(rt; takes && tells);
-    Ok(())
-}
+    let alloc = rt.alloc();
+    let mut world = MemWorld::new(alloc, List::new(alloc));
+    world.put_file(alloc, b"src", b"a/A.java", b"class A{}")?;
+    world.put_file(alloc, b"lib", b"B.java", b"class B{}")?;
+    world.write(alloc, b"src", b"B.java", b"class B{int b;}")?;
+    world.write(alloc, b"src", b"a/A.java", b"interface A{}")?;
 
-/// The calls 1, 2 and 3 fail.
-fn three_fail(alloc: Global, world: &mut MemWorld) -> bool {
-    world
-        .put_file(alloc, b"src", b"A.java", b"class A{}")
-        .is_ok()
-        && lists_one(alloc, world, b"src")
-        && list_fails(alloc, world, b"src")
-        && read_fails(alloc, world, b"src", b"A.java")
-        && write_fails(alloc, world, b"out", b"A.java", b"1234567")
-        && reads(alloc, world, b"out", b"A.java", b"123")
-        && world.files().len() == 2
+    assert_eq!(rt; world.files().len(), 3);
+    assert!(rt; are_both(&world.list(alloc, b"src")?, b"a/A.java", b"B.java"));
+    let read = world.read(alloc, b"src", b"a/A.java")?;
+    assert_eq!(rt; read.as_slice(), b"interface A{}".as_slice());
+    let read = world.read(alloc, b"lib", b"B.java")?;
+    assert_eq!(rt; read.as_slice(), b"class B{}".as_slice());
+    let absent = world.read(alloc, b"lib", b"A.java");
+    assert_eq!(rt; absent.err(), Some(WorldErr::Failed));
+    Ok(())
 }
 
 #[test]
 fn chosen_calls_of_a_world_fail(rt: HostRuntime) -> Result<(), Fail> {
-    let failing = List::from_vec([1, 2, 3].to_vec(rt.alloc())?);
-    let mut world = MemWorld::new(rt.alloc(), failing);
-    let fail = three_fail(rt.alloc(), &mut world);
-    assert!(rt; fail);
-    Ok(())
-}
+    let alloc = rt.alloc();
+    let mut world = MemWorld::new(alloc, List::from_vec([1, 2, 3].to_vec(alloc)?));
+    world.put_file(alloc, b"src", b"A.java", b"class A{}")?;
 
-fn misses_one(alloc: Global, world: &mut HonestWorld) -> bool {
-    world
-        .put_file(alloc, b"src", b"A.java", b"class A{}")
-        .is_ok()
-        && writes(alloc, world, b"src", b"B.java", b"class B{}")
-        && lists(alloc, world, b"src", b"A.java", b"B.java")
-        && reads(alloc, world, b"src", b"B.java", b"class B{}")
-        && read_fails(alloc, world, b"lib", b"B.java")
-        && world.files().len() == 2
+    assert_eq!(rt; world.list(alloc, b"src")?.len(), 1);
+    let list = world.list(alloc, b"src");
+    assert_eq!(rt; list.err(), Some(WorldErr::Failed));
+    let read = world.read(alloc, b"src", b"A.java");
+    assert_eq!(rt; read.err(), Some(WorldErr::Failed));
+    let half = world.write(alloc, b"out", b"A.java", b"1234567");
+    assert_eq!(rt; half.err(), Some(WorldErr::Failed));
+    let written = world.read(alloc, b"out", b"A.java")?;
+    assert_eq!(rt; written.as_slice(), b"123".as_slice());
+    assert_eq!(rt; world.files().len(), 2);
+    Ok(())
 }
 
 #[test]
 fn an_honest_world_misses_only_absent_files(rt: HostRuntime) -> Result<(), Fail> {
-    let mut world = HonestWorld::new(rt.alloc());
-    let misses = misses_one(rt.alloc(), &mut world);
-    assert!(rt; misses);
+    let alloc = rt.alloc();
+    let mut world = HonestWorld::new(alloc);
+    world.put_file(alloc, b"src", b"A.java", b"class A{}")?;
+    world.write(alloc, b"src", b"B.java", b"class B{}")?;
+
+    assert!(rt; are_both(&world.list(alloc, b"src")?, b"A.java", b"B.java"));
+    let read = world.read(alloc, b"src", b"B.java")?;
+    assert_eq!(rt; read.as_slice(), b"class B{}".as_slice());
+    let absent = world.read(alloc, b"lib", b"B.java");
+    assert_eq!(rt; absent.err(), Some(WorldErr::Failed));
+    assert_eq!(rt; world.files().len(), 2);
     Ok(())
 }
 
 #[test]
 fn sinks_take_bytes_in_order(rt: HostRuntime) -> Result<(), Fail> {
-    let mut sink = MemSink::new(rt.alloc(), List::from_vec([1].to_vec(rt.alloc())?));
-    let first = puts(rt.alloc(), &mut sink, b"ok 1\n");
-    let lost = put_fails(rt.alloc(), &mut sink, b"lost\n");
-    let last = puts(rt.alloc(), &mut sink, b"ok 2\n");
-    assert!(rt; first && lost && last && sink.bytes().as_slice() == b"ok 1\nok 2\n".as_slice());
-    Ok(())
-}
+    let alloc = rt.alloc();
+    let mut sink = MemSink::new(alloc, List::from_vec([1].to_vec(alloc)?));
+    sink.put(alloc, b"ok 1\n")?;
+    let failed = sink.put(alloc, b"lost\n");
+    assert_eq!(rt; failed.err(), Some(SinkErr::Failed));
+    sink.put(alloc, b"ok 2\n")?;
+    assert_eq!(rt; sink.bytes().as_slice(), b"ok 1\nok 2\n".as_slice());
 
-#[test]
-fn honest_sinks_take_bytes_in_order(rt: HostRuntime) -> Result<(), Fail> {
-    let mut sink = HonestSink::new(rt.alloc());
-    let first = puts(rt.alloc(), &mut sink, b"ok 1\n");
-    let last = puts(rt.alloc(), &mut sink, b"ok 2\n");
-    assert!(rt; first && last && sink.bytes().as_slice() == b"ok 1\nok 2\n".as_slice());
+    let mut sink = HonestSink::new(alloc);
+    sink.put(alloc, b"ok 1\n")?;
+    sink.put(alloc, b"ok 2\n")?;
+    assert_eq!(rt; sink.bytes().as_slice(), b"ok 1\nok 2\n".as_slice());
     Ok(())
 }

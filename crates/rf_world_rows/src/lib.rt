@@ -2,8 +2,6 @@
 #![tactic(auto)]
 
 #[cfg(test)]
-mod calls;
-#[cfg(test)]
 mod in_memory;
 #[cfg(test)]
 mod of_the_system;

@@ -1,6 +1,5 @@
-use crate::calls::{list_fails, lists, put_fails, puts, read_fails, reads, write_fails, writes};
-use rf_world::{RealSink, RealWorld, World};
-use std::alloc::Global;
+use crate::in_memory::are_both;
+use rf_world::{RealSink, RealWorld, Sink, SinkErr, World, WorldErr};
 use std::fmt::Display;
 use std::io::ErrorKind;
 use std::os::unix::fs::symlink;
@@ -25,73 +24,56 @@ impl Print for Full {
 }
 
 #[test]
-fn the_output_takes_bytes(rt: HostRuntime) {
-    assert!(rt; puts(rt.alloc(), &mut RealSink::new(&rt), b"standard output\n"));
+fn the_output_takes_bytes(rt: HostRuntime) -> Result<(), Fail> {
+    RealSink::new(&rt).put(rt.alloc(), b"standard output\n")?;
+    Ok(())
 }
 
 #[test]
 fn a_full_output_is_a_fault(rt: HostRuntime) {
-    assert!(rt; put_fails(rt.alloc(), &mut RealSink::new(&Full), b"ok 1\n"));
-}
-
-/// Writes a long file, and another one twice.
-fn keeps<W: World>(alloc: Global, world: &mut W, long: &[u8]) -> bool {
-    writes(alloc, world, b"test_kept", b"p/q/A.java", long)
-        && writes(alloc, world, b"test_kept/", b"B.java", b"class B{}")
-        && writes(alloc, world, b"test_kept", b"B.java", b"class")
-        && lists(alloc, world, b"test_kept", b"p/q/A.java", b"B.java")
-        && reads(alloc, world, b"test_kept/p", b"q/A.java", long)
-        && reads(alloc, world, b"", b"test_kept/B.java", b"class")
+    let failed = RealSink::new(&Full).put(rt.alloc(), b"ok 1\n");
+    assert_eq!(rt; failed.err(), Some(SinkErr::Failed));
 }
 
 #[test]
 fn the_system_keeps_what_is_written(rt: HostRuntime) -> Result<(), Fail> {
+    let alloc = rt.alloc();
     let _ = fs::remove_dir_all(&rt, "test_kept");
-    let long = vec![in rt.alloc(); 7u8; 200_000]?;
-    let keeps = keeps(rt.alloc(), &mut RealWorld::new(&rt), long.as_slice());
-    assert!(rt; keeps);
+    let mut world = RealWorld::new(&rt);
+    let long = vec![in alloc; 7u8; 200_000]?;
+    world.write(alloc, b"test_kept", b"p/q/A.java", long.as_slice())?;
+    world.write(alloc, b"test_kept/", b"B.java", b"class B{}")?;
+    world.write(alloc, b"test_kept", b"B.java", b"class")?;
+
+    assert!(rt; are_both(&world.list(alloc, b"test_kept")?, b"p/q/A.java", b"B.java"));
+    let read = world.read(alloc, b"test_kept/p", b"q/A.java")?;
+    assert_eq!(rt; read.as_slice(), long.as_slice());
+    let read = world.read(alloc, b"", b"test_kept/B.java")?;
+    assert_eq!(rt; read.as_slice(), b"class".as_slice());
+
+    symlink(&rt, "..", "test_kept/p/up")?;
+    symlink(&rt, "q/A.java", "test_kept/p/link")?;
+    symlink(&rt, "gone", "test_kept/p/broken")?;
+    assert!(rt; are_both(&world.list(alloc, b"test_kept/p")?, b"q/A.java", b"link"));
     fs::remove_dir_all(&rt, "test_kept")?;
     Ok(())
 }
 
 #[test]
-fn links_to_files_are_listed(rt: HostRuntime) -> Result<(), Fail> {
-    let _ = fs::remove_dir_all(&rt, "test_links");
-    fs::create_dir_all(&rt, "test_links/p/q")?;
-    fs::write(&rt, "test_links/p/q/A.java", "class A{}")?;
-    symlink(&rt, "..", "test_links/p/up")?;
-    symlink(&rt, "q/A.java", "test_links/p/link")?;
-    symlink(&rt, "gone", "test_links/p/broken")?;
-    let both = lists(
-        rt.alloc(),
-        &mut RealWorld::new(&rt),
-        b"test_links/p",
-        b"q/A.java",
-        b"link",
-    );
-    assert!(rt; both);
-    fs::remove_dir_all(&rt, "test_links")?;
-    Ok(())
-}
-
-/// Whether nothing is found under a root that isn't there.
-fn is_absent<W: World>(alloc: Global, world: &mut W, root: &[u8]) -> bool {
-    list_fails(alloc, world, root) && read_fails(alloc, world, root, b"A.java")
-}
-
-fn refuses<W: World>(alloc: Global, world: &mut W) -> bool {
-    is_absent(alloc, world, b"test_refused")
-        && is_absent(alloc, world, b"\xff")
-        && write_fails(alloc, world, b"test_refused", b"\xff", b"class A{}")
-        && writes(alloc, world, b"test_refused", b"A", b"class A{}")
-        && write_fails(alloc, world, b"test_refused", b"A/B", b"class B{}")
-}
-
-#[test]
 fn the_system_refuses_what_is_not_there(rt: HostRuntime) -> Result<(), Fail> {
+    let alloc = rt.alloc();
     let _ = fs::remove_dir_all(&rt, "test_refused");
-    let refuses = refuses(rt.alloc(), &mut RealWorld::new(&rt));
-    assert!(rt; refuses);
+    let mut world = RealWorld::new(&rt);
+    for root in [b"test_refused".as_slice(), b"\xff".as_slice()] {
+        assert_eq!(rt; world.list(alloc, root).err(), Some(WorldErr::Failed));
+        let read = world.read(alloc, root, b"A.java");
+        assert_eq!(rt; read.err(), Some(WorldErr::Failed));
+    }
+    let unnamed = world.write(alloc, b"test_refused", b"\xff", b"class A{}");
+    assert_eq!(rt; unnamed.err(), Some(WorldErr::Failed));
+    world.write(alloc, b"test_refused", b"A", b"class A{}")?;
+    let below_a_file = world.write(alloc, b"test_refused", b"A/B", b"class B{}");
+    assert_eq!(rt; below_a_file.err(), Some(WorldErr::Failed));
     fs::remove_dir_all(&rt, "test_refused")?;
     Ok(())
 }
