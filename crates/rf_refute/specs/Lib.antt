@@ -1,2 +1,5 @@
 pub mod Trees
 pub mod Good
+pub mod Numbers
+pub mod Stacks
+pub mod Shown
