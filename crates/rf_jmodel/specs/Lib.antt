@@ -1,0 +1,14 @@
+pub mod ElementLists
+pub mod Elements
+pub mod Fields
+pub mod FullNames
+pub mod Numbering
+pub mod Packages
+pub mod ProjectNames
+pub mod References
+pub mod Sets
+pub mod Supertypes
+pub mod TypeNames
+pub mod Units
+pub mod Variables
+pub mod Whole

@@ -1,0 +1,19 @@
+ghost use Rattle.std.specs.Prelude.{◌≡◌, ◌↔◌, ℕ, Bool};
+ghost use Rattle.rf_jview.specs.declared.marks.Mark.{Mark};
+ghost use Rattle.rf_jmodel.specs.declared.projects.Project.{Project};
+ghost use Rattle.rf_jmodel.specs.Elements.{HasElement, HasId};
+
+/// An id is that of one element, and an element has one id at most.
+pub fn ids_are_unique()
+    ensures element { (project : Project) (of : Mark → Bool) (id : ℕ) (one other : ℕ × ℕ)
+        → HasId project of id one → HasId project of id other → one ≡ other }
+    ensures id { (project : Project) (of : Mark → Bool) (one other : ℕ) (key : ℕ × ℕ)
+        → HasId project of one key → HasId project of other key → one ≡ other }
+{}
+
+/// Where a project is changed and the elements of a kind keep their keys, they keep their ids.
+pub fn ids_stay()
+    ensures { (old new : Project) (of : Mark → Bool)
+        → ((key : ℕ × ℕ) → HasElement old of key ↔ HasElement new of key)
+        → (id : ℕ) (key : ℕ × ℕ) → HasId old of id key → HasId new of id key }
+{}
