@@ -2,13 +2,16 @@ pub mod ElementLists
 pub mod Elements
 pub mod Fields
 pub mod FullNames
+pub mod IllFormed
 pub mod Numbering
 pub mod Packages
 pub mod ProjectNames
 pub mod References
 pub mod Sets
+pub mod Subtypes
 pub mod Supertypes
 pub mod TypeNames
+pub mod TypeReferences
 pub mod Units
 pub mod Variables
 pub mod Whole
