@@ -7,6 +7,7 @@ use Rattle.rf_jtree.specs.NameText.{id_texts}
 use Rattle.rf_jtree.specs.NameTrees.{NameTree}
 use Rattle.rf_jmodel.specs.declared.projects.PlacedUnit.{PlacedUnit}
 use Rattle.rf_jmodel.specs.declared.projects.Project.{Project}
+use Rattle.rf_jmodel.specs.Elements.{IsBefore, StandsAt, is_type}
 use Rattle.rf_jmodel.specs.FullNames.{IsTypeOf, package_ids, last_id, names_in, is_class, is_interface}
 use Rattle.rf_jmodel.specs.Packages.{IsPackage}
 use Rattle.rf_jmodel.specs.Supertypes.{IsAbove}
@@ -16,6 +17,16 @@ use Rattle.rf_jmodel.specs.Units.{HasUnit, tree_of}
 -- the full name of a file's type (JLS 6.7)
 abbrev pub full_ids : UnitTree → List (List ℕ)
 full_ids tree = package_ids tree ++ tree.decl.id.text ∷ []
+
+-- of two types this one is the earlier in element order
+pub record IsTypeBefore (project : Project) (x y : ℕ) : Type 0 where
+  pub k : ℕ
+  pub l : ℕ
+  pub key : ℕ × ℕ
+  pub other : ℕ × ℕ
+  pub stands : StandsAt project is_type x k key
+  pub other_stands : StandsAt project is_type y l other
+  pub order : IsBefore key other
 
 -- 1: the path isn't the package with `/` for dots, and then the name with `.java` (JLS 7.6)
 abbrev pub path_of : UnitTree → List ℕ
@@ -32,7 +43,7 @@ pub record HaveOneName (project : Project) (x y : ℕ) : Type 0 where
   pub other : PlacedUnit
   pub has_one : HasUnit project x one
   pub has_other : HasUnit project y other
-  pub order : x < y
+  pub order : IsTypeBefore project x y
   pub same : full_ids (tree_of one) ≡ full_ids (tree_of other)
 
 -- 3: a type's full name is a package (JLS 7.1)

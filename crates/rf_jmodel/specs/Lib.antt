@@ -1,5 +1,6 @@
 pub mod ElementLists
 pub mod Elements
+pub mod Faults
 pub mod Fields
 pub mod FullNames
 pub mod IllFormed
@@ -8,6 +9,7 @@ pub mod Packages
 pub mod ProjectNames
 pub mod References
 pub mod Sets
+pub mod StandsFor
 pub mod Subtypes
 pub mod Supertypes
 pub mod TypeNames
