@@ -1,6 +1,10 @@
+pub mod DeclTypes
+pub mod ExprTypes
 pub mod IdLemmas
 pub mod KeyLemmas
 pub mod ListLemmas
 pub mod NameLemmas
+pub mod NoTypes
 pub mod NumberLemmas
+pub mod StmtTypes
 pub mod WholeLemmas

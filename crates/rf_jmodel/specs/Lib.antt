@@ -5,6 +5,7 @@ pub mod Fields
 pub mod FullNames
 pub mod IllFormed
 pub mod Numbering
+pub mod OneType
 pub mod Packages
 pub mod ProjectNames
 pub mod References

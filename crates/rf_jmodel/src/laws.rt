@@ -1,7 +1,10 @@
 ghost use Rattle.std.specs.Prelude.{◌≡◌, ◌↔◌, ℕ, Bool};
+ghost use Rattle.rf_jtree.specs.DeclTrees.{UnitTree};
 ghost use Rattle.rf_jview.specs.declared.marks.Mark.{Mark};
 ghost use Rattle.rf_jmodel.specs.declared.projects.Project.{Project};
 ghost use Rattle.rf_jmodel.specs.Elements.{HasElement, HasId};
+ghost use Rattle.rf_jmodel.specs.OneType.{DeclaresOneType};
+ghost use Rattle.rf_jview.specs.DeclMarks.{unit_marks};
 
 /// An id is that of one element, and an element has one id at most.
 pub fn ids_are_unique()
@@ -16,4 +19,9 @@ pub fn ids_stay()
     ensures { (old new : Project) (of : Mark → Bool)
         → ((key : ℕ × ℕ) → HasElement old of key ↔ HasElement new of key)
         → (id : ℕ) (key : ℕ × ℕ) → HasId old of id key → HasId new of id key }
+{}
+
+/// A file declares one type.
+pub fn a_file_declares_one_type()
+    ensures { (unit : UnitTree) → DeclaresOneType (unit_marks unit) }
 {}
