@@ -7,4 +7,5 @@ pub mod NameLemmas
 pub mod NoTypes
 pub mod NumberLemmas
 pub mod StmtTypes
+pub mod TypeIdLemmas
 pub mod WholeLemmas

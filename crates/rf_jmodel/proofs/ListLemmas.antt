@@ -102,7 +102,7 @@ from-file of u (suc v) (first ∷ units) unit key at has =
     (from-file of (u + 1) v units unit key at (subst (λ (at : ℕ). Contains (places_from of at 0 (marks_of unit)) key) (sym (next u v)) has))
 
 -- they rise: in a file by tokens, and from file to file
-rises-in-file : (of : Mark → Bool) (u n : ℕ) (marks : List Mark) → Rises (places_from of u n marks)
+pub rises-in-file : (of : Mark → Bool) (u n : ℕ) (marks : List Mark) → Rises (places_from of u n marks)
 rises-in-file of u n [] = tt
 rises-in-file of u n (mark ∷ marks) = by (of mark) (rises-in-file of u (n + 1) marks)
   where

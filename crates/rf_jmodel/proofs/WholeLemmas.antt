@@ -79,7 +79,7 @@ module _ (units : List PlacedUnit) (own lib : ℕ) where
     all-parsed : All IsParsed (numbered_units 0 units)
     all-parsed = All-from_recursion IsParsed (numbered_units 0 units) (parsed-each 0 units (recursion_from_All IsParsed units all))
 
-    key-of-mark : (u k : ℕ) (mark : Mark) → MarkAt (numbered units own lib) u k mark → KeyAt (numbered units own lib) u k (0 + u, 0 + k)
+    pub key-of-mark : (u k : ℕ) (mark : Mark) → MarkAt (numbered units own lib) u k mark → KeyAt (numbered units own lib) u k (0 + u, 0 + k)
     key-of-mark u k mark at =
         let within = slice_get_within (marks_of at.unit) k mark at.has_mark in
         let counts = laws (tree_of at.unit) ∙ ap (λ (toks : List Tok). length toks) (parsed-at (numbered_units 0 units) u at.unit all-parsed at.has_unit).yields in

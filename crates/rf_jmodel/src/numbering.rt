@@ -1,9 +1,11 @@
 ghost use Rattle.std.specs.Prelude.{◌≡◌, ◌+◌, ◌^◌, ◌<◌, ◌≤◌, [], All, Bool, IfOk, OnOk, length};
 ghost use Rattle.rf_jview.specs.declared.marks.Mark.{Mark};
+ghost use Rattle.rf_jmodel.specs.declared.ids.TypeId.{TypeId};
 ghost use Rattle.rf_jmodel.specs.ElementLists.{places_in};
 ghost use Rattle.rf_jmodel.specs.Elements.{AreKeys, HasElement};
 ghost use Rattle.rf_jmodel.specs.Numbering.{entries_from, numbered_unit, numbered_units, numbered};
 ghost use Rattle.rf_jmodel.specs.ProjectNames.{with_text, with_texts, identifier_text, identifier_texts, package_text, unit_texts, texts_of};
+ghost use Rattle.rf_jmodel.specs.Subtypes.{IsTypeId};
 ghost use Rattle.rf_jmodel.specs.Whole.{HasBasicTypes, IsParsed, IsWhole, token_count};
 
 use crate::{PlacedUnit, Project};
@@ -139,7 +141,8 @@ fn names_of(alloc: Global, units: &[PlacedUnit]) -> Result<Names, Memory>
 }
 
 /// The project of these files, of which so many are its own and the next so many are the library's. Each token gets itself
-/// as its entry, and the project has the names that stand in it, in the order in which they first come.
+/// as its entry, and the project has the names that stand in it, in the order in which they first come. The type with an id is
+/// that of the file with this number.
 pub fn number(alloc: Global, units: List<PlacedUnit>, own: u32, lib: u32) -> Result<Project, Memory>
     requires counted { own + lib ≤ length units }
     requires parsed { All IsParsed units }
@@ -147,6 +150,8 @@ pub fn number(alloc: Global, units: List<PlacedUnit>, own: u32, lib: u32) -> Res
     ensures exact { IfOk result (λ project. project ≡ numbered units own lib) }
     ensures elements { IfOk result (λ project. (of : Mark → Bool)
         → AreKeys (HasElement project of) (places_in of 0 units)) }
+    ensures types { IfOk result (λ project. (id : TypeId) → id.0 < length units
+        → IsTypeId project id id.0) }
     ensures whole { IfOk result (λ project. HasBasicTypes project → IsWhole project) }
 {
     as_many_marks_as_tokens();

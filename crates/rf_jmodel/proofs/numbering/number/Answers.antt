@@ -6,6 +6,8 @@ use Rattle.rf_jmodel.specs.Elements.{AreKeys, HasElement}
 use Rattle.rf_jmodel.specs.Numbering.{numbered_units, numbered}
 use Rattle.rf_jmodel.specs.ProjectNames.{with_texts, texts_of}
 use Rattle.rf_jmodel.specs.Whole.{HasBasicTypes, IsWhole}
+use Rattle.rf_jmodel.specs.Subtypes.{IsTypeId}
+use Rattle.rf_jmodel.proofs.TypeIdLemmas.{type-ids}
 use Rattle.rf_jmodel.proofs.WholeLemmas.{are-keys, whole}
 use Rattle.rf_jmodel.proofs.numbering.number.Goals as goal
 
@@ -24,6 +26,13 @@ returns-clause-elements c of =
     c.as_slice.ensures c.in_ok-units.ensures c.in_ok-names.ensures in
     subst (λ (project : Project). AreKeys (HasElement project of) (places_in of 0 c.args.units)) (sym same)
     (are-keys c.args.units c.args.own c.args.lib c.requires.parsed c.as_many_marks_as_tokens.ensures.unit of)
+
+pub returns-clause-types : goal.returns-clause-types
+returns-clause-types c id below =
+    let same = is-numbered c.args.units c.as_slice.result.now c.in_ok-units.units c.in_ok-names.names c.args.own c.args.lib
+    c.as_slice.ensures c.in_ok-units.ensures c.in_ok-names.ensures in
+    subst (λ (project : Project). IsTypeId project id id.0) (sym same)
+    (type-ids c.args.units c.args.own c.args.lib c.requires.parsed c.as_many_marks_as_tokens.ensures.unit id below)
 
 pub returns-clause-whole : goal.returns-clause-whole
 returns-clause-whole c =
