@@ -12,107 +12,105 @@ use rf_text::{Bytes, List, Memory};
 use std::alloc::Global;
 
 /// A file as a text.
-pub fn unit_told(alloc: Global, unit: &Unit) -> Result<Bytes, Memory> {
+pub(crate) fn unit_told(alloc: Global, unit: &Unit) -> Result<Bytes, Memory> {
     let mut text = TreeText::new(alloc);
-    tell_unit(&mut text, unit)?;
-    Ok(text.into_bytes())
+    tell_unit(&mut text, unit);
+    text.into_bytes()
 }
 
-fn tell_unit(text: &mut TreeText, unit: &Unit) -> Result<(), Memory> {
-    tell_package(text, &unit.package)?;
+fn tell_unit(text: &mut TreeText, unit: &Unit) {
+    tell_package(text, &unit.package);
     for import in unit.imports.as_slice() {
-        tell_import(text, import)?;
+        tell_import(text, import);
     }
-    tell_decl(text, &unit.decl)?;
+    tell_decl(text, &unit.decl);
     for semi in unit.semis.as_slice() {
-        text.tok(semi)?;
+        text.tok(semi);
     }
-    Ok(())
 }
 
-fn tell_package(text: &mut TreeText, clause: &Option<(Tok, Name, Tok)>) -> Result<(), Memory> {
+fn tell_package(text: &mut TreeText, clause: &Option<(Tok, Name, Tok)>) {
     match clause {
         Some((word, name, semi)) => {
-            text.open()?;
-            text.tok(word)?;
-            text.name(name)?;
-            text.tok(semi)?;
-            text.close()
-        }
-        None => Ok(()),
-    }
-}
-
-fn tell_import(text: &mut TreeText, import: &Import) -> Result<(), Memory> {
-    text.open()?;
-    text.tok(&import.word)?;
-    text.name(&import.name)?;
-    match &import.star {
-        Some((dot, times)) => {
-            text.tok(dot)?;
-            text.tok(times)?
+            text.open();
+            text.tok(word);
+            text.name(name);
+            text.tok(semi);
+            text.close();
         }
         None => (),
     }
-    text.tok(&import.semi)?;
-    text.close()
+}
+
+fn tell_import(text: &mut TreeText, import: &Import) {
+    text.open();
+    text.tok(&import.word);
+    text.name(&import.name);
+    match &import.star {
+        Some((dot, times)) => {
+            text.tok(dot);
+            text.tok(times);
+        }
+        None => (),
+    }
+    text.tok(&import.semi);
+    text.close();
 }
 
 /// Names behind a keyword, as behind `throws`.
-fn tell_names(text: &mut TreeText, names: &Option<(Tok, Many<Name>)>) -> Result<(), Memory> {
+fn tell_names(text: &mut TreeText, names: &Option<(Tok, Many<Name>)>) {
     match names {
         Some((word, names)) => {
-            text.tok(word)?;
-            text.name(&names.first)?;
+            text.tok(word);
+            text.name(&names.first);
             for (comma, name) in names.rest.as_slice() {
-                text.tok(comma)?;
-                text.name(name)?;
+                text.tok(comma);
+                text.name(name);
             }
-            Ok(())
         }
-        None => Ok(()),
+        None => (),
     }
 }
 
-fn tell_decl(text: &mut TreeText, decl: &TypeDecl) -> Result<(), Memory> {
-    text.open()?;
-    tell_mods(text, &decl.mods)?;
-    text.tok(&decl.word)?;
-    text.tok(&decl.id)?;
-    tell_names(text, &decl.extends)?;
-    tell_names(text, &decl.implements)?;
-    text.tok(&decl.left)?;
+fn tell_decl(text: &mut TreeText, decl: &TypeDecl) {
+    text.open();
+    tell_mods(text, &decl.mods);
+    text.tok(&decl.word);
+    text.tok(&decl.id);
+    tell_names(text, &decl.extends);
+    tell_names(text, &decl.implements);
+    text.tok(&decl.left);
     for member in decl.members.as_slice() {
-        text.open()?;
-        tell_member(text, member)?;
-        text.close()?;
+        text.open();
+        tell_member(text, member);
+        text.close();
     }
-    text.tok(&decl.right)?;
-    text.close()
+    text.tok(&decl.right);
+    text.close();
 }
 
 // ---- members
 
-fn tell_param(text: &mut TreeText, param: &Param) -> Result<(), Memory> {
-    tell_mods(text, &param.mods)?;
-    text.sort(&param.sort)?;
-    text.tok(&param.id)?;
-    text.dims(&param.dims)
+fn tell_param(text: &mut TreeText, param: &Param) {
+    tell_mods(text, &param.mods);
+    text.sort(&param.sort);
+    text.tok(&param.id);
+    text.dims(&param.dims);
 }
 
-fn tell_params(text: &mut TreeText, params: &Params) -> Result<(), Memory> {
-    text.tok(&params.left)?;
+fn tell_params(text: &mut TreeText, params: &Params) {
+    text.tok(&params.left);
     match &params.list {
         Some(list) => {
-            tell_param(text, &list.first)?;
+            tell_param(text, &list.first);
             for (comma, param) in list.rest.as_slice() {
-                text.tok(comma)?;
-                tell_param(text, param)?;
+                text.tok(comma);
+                tell_param(text, param);
             }
         }
         None => (),
     }
-    text.tok(&params.right)
+    text.tok(&params.right);
 }
 
 /// The name of a constructor or a method, its parameters and what it throws.
@@ -121,45 +119,45 @@ fn tell_callable(
     id: &Tok,
     params: &Params,
     throws: &Option<(Tok, Many<Name>)>,
-) -> Result<(), Memory> {
-    text.tok(id)?;
-    tell_params(text, params)?;
-    tell_names(text, throws)
+) {
+    text.tok(id);
+    tell_params(text, params);
+    tell_names(text, throws);
 }
 
-fn tell_call(text: &mut TreeText, call: &Option<CtorCall>) -> Result<(), Memory> {
+fn tell_call(text: &mut TreeText, call: &Option<CtorCall>) {
     match call {
         Some(call) => {
-            text.open()?;
-            text.tok(&call.word)?;
-            tell_args(text, &call.args)?;
-            text.tok(&call.semi)?;
-            text.close()
+            text.open();
+            text.tok(&call.word);
+            tell_args(text, &call.args);
+            text.tok(&call.semi);
+            text.close();
         }
-        None => Ok(()),
+        None => (),
     }
 }
 
-fn tell_ret(text: &mut TreeText, ret: &Ret) -> Result<(), Memory> {
+fn tell_ret(text: &mut TreeText, ret: &Ret) {
     match ret {
         Ret::Void(word) => text.tok(word),
         Ret::Value(sort) => text.sort(sort),
     }
 }
 
-fn tell_body(text: &mut TreeText, body: &Body) -> Result<(), Memory> {
+fn tell_body(text: &mut TreeText, body: &Body) {
     match body {
         Body::Block(block) => tell_block(text, block),
         Body::Semi(semi) => text.tok(semi),
     }
 }
 
-fn tell_member(text: &mut TreeText, member: &Member) -> Result<(), Memory> {
+fn tell_member(text: &mut TreeText, member: &Member) {
     match member {
         Member::Semi(semi) => text.tok(semi),
         Member::Init { word, body } => {
-            tell_tok(text, word)?;
-            tell_block(text, body)
+            tell_tok(text, word);
+            tell_block(text, body);
         }
         Member::Ctor {
             mods,
@@ -171,12 +169,12 @@ fn tell_member(text: &mut TreeText, member: &Member) -> Result<(), Memory> {
             body,
             right,
         } => {
-            tell_mods(text, mods)?;
-            tell_callable(text, id, params, throws)?;
-            text.tok(left)?;
-            tell_call(text, call)?;
-            tell_stmts(text, body)?;
-            text.tok(right)
+            tell_mods(text, mods);
+            tell_callable(text, id, params, throws);
+            text.tok(left);
+            tell_call(text, call);
+            tell_stmts(text, body);
+            text.tok(right);
         }
         Member::Method {
             mods,
@@ -186,10 +184,10 @@ fn tell_member(text: &mut TreeText, member: &Member) -> Result<(), Memory> {
             throws,
             body,
         } => {
-            tell_mods(text, mods)?;
-            tell_ret(text, ret)?;
-            tell_callable(text, id, params, throws)?;
-            tell_body(text, body)
+            tell_mods(text, mods);
+            tell_ret(text, ret);
+            tell_callable(text, id, params, throws);
+            tell_body(text, body);
         }
         Member::Field {
             mods,
@@ -197,10 +195,10 @@ fn tell_member(text: &mut TreeText, member: &Member) -> Result<(), Memory> {
             vars,
             semi,
         } => {
-            tell_mods(text, mods)?;
-            text.sort(sort)?;
-            tell_vars(text, vars)?;
-            text.tok(semi)
+            tell_mods(text, mods);
+            text.sort(sort);
+            tell_vars(text, vars);
+            text.tok(semi);
         }
     }
 }

@@ -7,85 +7,85 @@ use rf_text::{Bytes, List, Memory};
 use std::alloc::Global;
 
 /// An expression as a text.
-pub fn told(alloc: Global, expr: &Expr) -> Result<Bytes, Memory> {
+pub(crate) fn told(alloc: Global, expr: &Expr) -> Result<Bytes, Memory> {
     let mut text = TreeText::new(alloc);
-    tell(&mut text, expr)?;
-    Ok(text.into_bytes())
+    tell(&mut text, expr);
+    text.into_bytes()
 }
 
 #[cycle(tell)]
-fn tell(text: &mut TreeText, expr: &Expr) -> Result<(), Memory> {
+fn tell(text: &mut TreeText, expr: &Expr) {
     match expr {
         Expr::Lit(tok) => text.tok(tok),
         Expr::This(tok) => text.tok(tok),
         Expr::Name(name) => text.name(name),
         _ => {
-            text.open()?;
-            tell_bare(text, expr)?;
-            text.close()
+            text.open();
+            tell_bare(text, expr);
+            text.close();
         }
     }
 }
 
 /// An expression without `«` and `»` of its own.
 #[cycle(tell)]
-pub(crate) fn tell_bare(text: &mut TreeText, expr: &Expr) -> Result<(), Memory> {
+pub(crate) fn tell_bare(text: &mut TreeText, expr: &Expr) {
     match expr {
         Expr::Lit(tok) => text.tok(tok),
         Expr::This(tok) => text.tok(tok),
         Expr::Name(name) => text.name(name),
         Expr::Assign(left, op, right) | Expr::Binary(left, op, right) => {
-            tell(text, left)?;
-            text.tok(op)?;
+            tell(text, left);
+            text.tok(op);
             tell(text, right)
         }
         Expr::Cond(test, mark, first, colon, other) => {
-            tell(text, test)?;
-            text.tok(mark)?;
-            tell(text, first)?;
-            text.tok(colon)?;
+            tell(text, test);
+            text.tok(mark);
+            tell(text, first);
+            text.tok(colon);
             tell(text, other)
         }
         Expr::Instance(value, word, sort) => {
-            tell(text, value)?;
-            text.tok(word)?;
-            text.sort(sort)
+            tell(text, value);
+            text.tok(word);
+            text.sort(sort);
         }
         Expr::Unary(op, value) => {
-            text.tok(op)?;
+            text.tok(op);
             tell(text, value)
         }
         Expr::Cast(left, sort, right, value) => {
-            text.tok(left)?;
-            text.sort(sort)?;
-            text.tok(right)?;
+            text.tok(left);
+            text.sort(sort);
+            text.tok(right);
             tell(text, value)
         }
         Expr::Postfix(value, op) => {
-            tell(text, value)?;
-            text.tok(op)
+            tell(text, value);
+            text.tok(op);
         }
         _ => tell_primary(text, expr),
     }
 }
 
 #[cycle(tell)]
-fn tell_primary(text: &mut TreeText, expr: &Expr) -> Result<(), Memory> {
+fn tell_primary(text: &mut TreeText, expr: &Expr) {
     match expr {
         Expr::Paren(left, value, right) => {
-            text.tok(left)?;
-            tell(text, value)?;
-            text.tok(right)
+            text.tok(left);
+            tell(text, value);
+            text.tok(right);
         }
         Expr::Call { on, id, args } => {
-            tell_on(text, on)?;
-            text.tok(id)?;
-            tell_args(text, args)
+            tell_on(text, on);
+            text.tok(id);
+            tell_args(text, args);
         }
         Expr::Field(value, dot, id) => {
-            tell(text, value)?;
-            text.tok(dot)?;
-            text.tok(id)
+            tell(text, value);
+            text.tok(dot);
+            text.tok(id);
         }
         Expr::Super {
             word,
@@ -93,31 +93,31 @@ fn tell_primary(text: &mut TreeText, expr: &Expr) -> Result<(), Memory> {
             id,
             args,
         } => {
-            text.tok(word)?;
-            text.tok(dot)?;
-            text.tok(id)?;
+            text.tok(word);
+            text.tok(dot);
+            text.tok(id);
             match args {
                 Some(args) => tell_args(text, args),
-                None => Ok(()),
+                None => (),
             }
         }
         Expr::Index(value, left, index, right) => {
-            tell(text, value)?;
-            text.tok(left)?;
-            tell(text, index)?;
-            text.tok(right)
+            tell(text, value);
+            text.tok(left);
+            tell(text, index);
+            text.tok(right);
         }
         _ => tell_new(text, expr),
     }
 }
 
 #[cycle(tell)]
-fn tell_new(text: &mut TreeText, expr: &Expr) -> Result<(), Memory> {
+fn tell_new(text: &mut TreeText, expr: &Expr) {
     match expr {
         Expr::New(word, name, args) => {
-            text.tok(word)?;
-            text.name(name)?;
-            tell_args(text, args)
+            text.tok(word);
+            text.name(name);
+            tell_args(text, args);
         }
         Expr::NewArray {
             word,
@@ -125,10 +125,10 @@ fn tell_new(text: &mut TreeText, expr: &Expr) -> Result<(), Memory> {
             sizes,
             dims,
         } => {
-            text.tok(word)?;
-            text.base(base)?;
-            tell_sizes(text, sizes)?;
-            text.dims(dims)
+            text.tok(word);
+            text.base(base);
+            tell_sizes(text, sizes);
+            text.dims(dims);
         }
         Expr::NewInit {
             word,
@@ -136,94 +136,91 @@ fn tell_new(text: &mut TreeText, expr: &Expr) -> Result<(), Memory> {
             dims,
             init,
         } => {
-            text.tok(word)?;
-            text.base(base)?;
-            text.dims(dims)?;
-            tell_braces(text, init)
+            text.tok(word);
+            text.base(base);
+            text.dims(dims);
+            tell_braces(text, init);
         }
-        _ => Ok(()),
+        _ => (),
     }
 }
 
 #[cycle(tell)]
-fn tell_on(text: &mut TreeText, on: &Option<Box<(Box<Expr>, Tok)>>) -> Result<(), Memory> {
+fn tell_on(text: &mut TreeText, on: &Option<Box<(Box<Expr>, Tok)>>) {
     match on {
         Some(on) => {
-            tell(text, &on.0)?;
-            text.tok(&on.1)
+            tell(text, &on.0);
+            text.tok(&on.1);
         }
-        None => Ok(()),
-    }
-}
-
-#[cycle(tell)]
-pub(crate) fn tell_args(text: &mut TreeText, args: &Args) -> Result<(), Memory> {
-    text.tok(&args.left)?;
-    match &args.list {
-        Some(list) => tell_exprs(text, list)?,
         None => (),
     }
-    text.tok(&args.right)
 }
 
 #[cycle(tell)]
-fn tell_exprs(text: &mut TreeText, exprs: &Many<Expr>) -> Result<(), Memory> {
-    tell(text, &exprs.first)?;
+pub(crate) fn tell_args(text: &mut TreeText, args: &Args) {
+    text.tok(&args.left);
+    match &args.list {
+        Some(list) => tell_exprs(text, list),
+        None => (),
+    }
+    text.tok(&args.right);
+}
+
+#[cycle(tell)]
+fn tell_exprs(text: &mut TreeText, exprs: &Many<Expr>) {
+    tell(text, &exprs.first);
     for (comma, expr) in exprs.rest.as_slice() {
-        text.tok(comma)?;
-        tell(text, expr)?;
+        text.tok(comma);
+        tell(text, expr);
     }
-    Ok(())
 }
 
 #[cycle(tell)]
-fn tell_sizes(text: &mut TreeText, sizes: &List<(Tok, Expr, Tok)>) -> Result<(), Memory> {
+fn tell_sizes(text: &mut TreeText, sizes: &List<(Tok, Expr, Tok)>) {
     for (left, size, right) in sizes.as_slice() {
-        text.tok(left)?;
-        tell(text, size)?;
-        text.tok(right)?;
+        text.tok(left);
+        tell(text, size);
+        text.tok(right);
     }
-    Ok(())
 }
 
 #[cycle(tell)]
-fn tell_init(text: &mut TreeText, init: &Init) -> Result<(), Memory> {
+fn tell_init(text: &mut TreeText, init: &Init) {
     match init {
         Init::Value(value) => tell(text, value),
         Init::Braced(braces) => {
-            text.open()?;
-            tell_braces(text, braces)?;
-            text.close()
+            text.open();
+            tell_braces(text, braces);
+            text.close();
         }
     }
 }
 
 #[cycle(tell)]
-fn tell_inits(text: &mut TreeText, inits: &Many<Init>) -> Result<(), Memory> {
-    tell_init(text, &inits.first)?;
+fn tell_inits(text: &mut TreeText, inits: &Many<Init>) {
+    tell_init(text, &inits.first);
     for (comma, init) in inits.rest.as_slice() {
-        text.tok(comma)?;
-        tell_init(text, init)?;
+        text.tok(comma);
+        tell_init(text, init);
     }
-    Ok(())
 }
 
 #[cycle(tell)]
-fn tell_braces(text: &mut TreeText, braces: &Braces) -> Result<(), Memory> {
-    text.tok(&braces.left)?;
+fn tell_braces(text: &mut TreeText, braces: &Braces) {
+    text.tok(&braces.left);
     match &braces.items {
-        Some(items) => tell_inits(text, items)?,
+        Some(items) => tell_inits(text, items),
         None => (),
     }
     match &braces.comma {
-        Some(comma) => text.tok(comma)?,
+        Some(comma) => text.tok(comma),
         None => (),
     }
-    text.tok(&braces.right)
+    text.tok(&braces.right);
 }
 
 /// What a variable begins with, without `«` and `»` of its own.
-pub(crate) fn tell_beginning(text: &mut TreeText, init: &Init) -> Result<(), Memory> {
+pub(crate) fn tell_beginning(text: &mut TreeText, init: &Init) {
     match init {
         Init::Value(value) => tell_bare(text, value),
         Init::Braced(braces) => tell_braces(text, braces),

@@ -4,42 +4,42 @@
 use crate::exprs::{tell_bare, tell_beginning};
 use crate::tree_text::TreeText;
 use rf_jtree::{Expr, ForFirst, Head, Local, Many, Mod, Strs, Tok, Var};
-use rf_text::{List, Memory};
+use rf_text::List;
 
 // ---- modifiers and variables
 
-pub(crate) fn tell_strs(text: &mut TreeText, strs: &Strs) -> Result<(), Memory> {
+pub(crate) fn tell_strs(text: &mut TreeText, strs: &Strs) {
     match strs {
         Strs::One(tok) => text.tok(tok),
         Strs::Braced { left, list, right } => {
-            text.tok(left)?;
+            text.tok(left);
             match list {
                 Some(list) => {
-                    text.tok(&list.first)?;
+                    text.tok(&list.first);
                     for (comma, tok) in list.rest.as_slice() {
-                        text.tok(comma)?;
-                        text.tok(tok)?;
+                        text.tok(comma);
+                        text.tok(tok);
                     }
                 }
                 None => (),
             }
-            text.tok(right)
+            text.tok(right);
         }
     }
 }
 
-pub(crate) fn tell_annotation(text: &mut TreeText, annotation: &Mod) -> Result<(), Memory> {
+pub(crate) fn tell_annotation(text: &mut TreeText, annotation: &Mod) {
     match annotation {
         Mod::Word(word) => text.tok(word),
         Mod::Mark { at, id, parens } => {
-            text.tok(at)?;
-            text.near(id)?;
+            text.tok(at);
+            text.near(id);
             match parens {
                 Some((left, right)) => {
-                    text.tok(left)?;
-                    text.tok(right)
+                    text.tok(left);
+                    text.tok(right);
                 }
-                None => Ok(()),
+                None => (),
             }
         }
         Mod::Suppress {
@@ -49,93 +49,90 @@ pub(crate) fn tell_annotation(text: &mut TreeText, annotation: &Mod) -> Result<(
             strs,
             right,
         } => {
-            text.tok(at)?;
-            text.near(id)?;
-            text.tok(left)?;
-            tell_strs(text, strs)?;
-            text.tok(right)
+            text.tok(at);
+            text.near(id);
+            text.tok(left);
+            tell_strs(text, strs);
+            text.tok(right);
         }
     }
 }
 
 /// Modifiers; each annotation has `«` before it and `»` behind it.
-pub(crate) fn tell_mods(text: &mut TreeText, mods: &List<Mod>) -> Result<(), Memory> {
+pub(crate) fn tell_mods(text: &mut TreeText, mods: &List<Mod>) {
     for item in mods.as_slice() {
         match item {
-            Mod::Word(word) => text.tok(word)?,
+            Mod::Word(word) => text.tok(word),
             _ => {
-                text.open()?;
-                tell_annotation(text, item)?;
-                text.close()?
+                text.open();
+                tell_annotation(text, item);
+                text.close();
             }
         }
     }
-    Ok(())
 }
 
-pub(crate) fn tell_var(text: &mut TreeText, var: &Var) -> Result<(), Memory> {
+pub(crate) fn tell_var(text: &mut TreeText, var: &Var) {
     match &var.init {
         Some((equals, init)) => {
-            text.open()?;
-            text.tok(&var.id)?;
-            text.dims(&var.dims)?;
-            text.tok(equals)?;
-            tell_beginning(text, init)?;
-            text.close()
+            text.open();
+            text.tok(&var.id);
+            text.dims(&var.dims);
+            text.tok(equals);
+            tell_beginning(text, init);
+            text.close();
         }
         None => {
-            text.tok(&var.id)?;
-            text.dims(&var.dims)
+            text.tok(&var.id);
+            text.dims(&var.dims);
         }
     }
 }
 
-pub(crate) fn tell_vars(text: &mut TreeText, vars: &Many<Var>) -> Result<(), Memory> {
-    tell_var(text, &vars.first)?;
+pub(crate) fn tell_vars(text: &mut TreeText, vars: &Many<Var>) {
+    tell_var(text, &vars.first);
     for (comma, var) in vars.rest.as_slice() {
-        text.tok(comma)?;
-        tell_var(text, var)?;
+        text.tok(comma);
+        tell_var(text, var);
     }
-    Ok(())
 }
 
-pub(crate) fn tell_local(text: &mut TreeText, local: &Local) -> Result<(), Memory> {
-    tell_mods(text, &local.mods)?;
-    text.sort(&local.sort)?;
-    tell_vars(text, &local.vars)
+pub(crate) fn tell_local(text: &mut TreeText, local: &Local) {
+    tell_mods(text, &local.mods);
+    text.sort(&local.sort);
+    tell_vars(text, &local.vars);
 }
 
 // ---- parts that may be left out
 
-pub(crate) fn tell_some(text: &mut TreeText, expr: &Option<Box<Expr>>) -> Result<(), Memory> {
+pub(crate) fn tell_some(text: &mut TreeText, expr: &Option<Box<Expr>>) {
     match expr {
         Some(expr) => tell_bare(text, expr),
-        None => Ok(()),
+        None => (),
     }
 }
 
-pub(crate) fn tell_each(text: &mut TreeText, exprs: &Option<Many<Expr>>) -> Result<(), Memory> {
+pub(crate) fn tell_each(text: &mut TreeText, exprs: &Option<Many<Expr>>) {
     match exprs {
         Some(exprs) => {
-            tell_bare(text, &exprs.first)?;
+            tell_bare(text, &exprs.first);
             for (comma, expr) in exprs.rest.as_slice() {
-                text.tok(comma)?;
-                tell_bare(text, expr)?;
+                text.tok(comma);
+                tell_bare(text, expr);
             }
-            Ok(())
         }
-        None => Ok(()),
+        None => (),
     }
 }
 
-pub(crate) fn tell_tok(text: &mut TreeText, tok: &Option<Tok>) -> Result<(), Memory> {
+pub(crate) fn tell_tok(text: &mut TreeText, tok: &Option<Tok>) {
     match tok {
         Some(tok) => text.tok(tok),
-        None => Ok(()),
+        None => (),
     }
 }
 
-pub(crate) fn tell_first(text: &mut TreeText, first: &ForFirst) -> Result<(), Memory> {
+pub(crate) fn tell_first(text: &mut TreeText, first: &ForFirst) {
     match first {
         ForFirst::Local(local) => tell_local(text, local),
         ForFirst::Exprs(exprs) => tell_each(text, exprs),
@@ -143,22 +140,19 @@ pub(crate) fn tell_first(text: &mut TreeText, first: &ForFirst) -> Result<(), Me
 }
 
 /// A keyword with an expression in parentheses behind it.
-pub(crate) fn tell_head(text: &mut TreeText, head: &Head) -> Result<(), Memory> {
-    text.tok(&head.word)?;
-    text.tok(&head.left)?;
-    tell_bare(text, &head.value)?;
-    text.tok(&head.right)
+pub(crate) fn tell_head(text: &mut TreeText, head: &Head) {
+    text.tok(&head.word);
+    text.tok(&head.left);
+    tell_bare(text, &head.value);
+    text.tok(&head.right);
 }
 
-pub(crate) fn tell_message(
-    text: &mut TreeText,
-    message: &Option<(Tok, Box<Expr>)>,
-) -> Result<(), Memory> {
+pub(crate) fn tell_message(text: &mut TreeText, message: &Option<(Tok, Box<Expr>)>) {
     match message {
         Some((colon, expr)) => {
-            text.tok(colon)?;
-            tell_bare(text, expr)
+            text.tok(colon);
+            tell_bare(text, expr);
         }
-        None => Ok(()),
+        None => (),
     }
 }

@@ -1,5 +1,0 @@
-//! The trees that the parsers read, in tables of texts.
-
-mod blocks;
-mod exprs;
-mod files;
