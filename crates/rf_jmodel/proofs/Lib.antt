@@ -7,5 +7,6 @@ pub mod NameLemmas
 pub mod NoTypes
 pub mod NumberLemmas
 pub mod StmtTypes
+pub mod SuperLemmas
 pub mod TypeIdLemmas
 pub mod WholeLemmas

@@ -4,6 +4,7 @@ ghost use Rattle.rf_jview.specs.declared.marks.Mark.{Mark};
 ghost use Rattle.rf_jmodel.specs.declared.projects.Project.{Project};
 ghost use Rattle.rf_jmodel.specs.Elements.{HasElement, HasId};
 ghost use Rattle.rf_jmodel.specs.OneType.{DeclaresOneType};
+ghost use Rattle.rf_jmodel.specs.Supertypes.{IsBelow};
 ghost use Rattle.rf_jview.specs.DeclMarks.{unit_marks};
 
 /// An id is that of one element, and an element has one id at most.
@@ -24,4 +25,10 @@ pub fn ids_stay()
 /// A file declares one type.
 pub fn a_file_declares_one_type()
     ensures { (unit : UnitTree) → DeclaresOneType (unit_marks unit) }
+{}
+
+/// What is above a supertype is above the type.
+pub fn supertypes_have_supertypes()
+    ensures { (project : Project) (x y z : ℕ)
+        → IsBelow project x y → IsBelow project y z → IsBelow project x z }
 {}
