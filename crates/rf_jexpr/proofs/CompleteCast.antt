@@ -3,7 +3,7 @@ use Rattle.std.proofs.Common.{◌≡◌, ℕ, List, [], ◌∷◌, ◌++◌, Opt
 use Rattle.rf_jtree.specs.declared.operators.Op.{Op}
 use Rattle.rf_jtree.specs.declared.tokens.Tok.{Tok}
 use Rattle.rf_jtree.specs.declared.levels.TheConstants.{POSTFIX_LEVEL}
-use Rattle.rf_jtree.specs.declared.operator_names.TheConstants.{LEFT_PAREN, RIGHT_PAREN, LEFT_BRACKET, DOT, SUFFIXES, OPERAND_OPERATORS}
+use Rattle.rf_jtree.specs.declared.operator_names.TheConstants.{LEFT_PAREN, RIGHT_PAREN, LEFT_BRACKET, DOT, ASSIGNMENTS, SUFFIXES, OPERAND_OPERATORS}
 use Rattle.rf_jtree.specs.declared.keyword_names.TheConstants.{NEW, SUPER, THIS}
 use Rattle.rf_jtree.specs.declared.words.Kw.{Kw}
 use Rattle.rf_jtree.specs.ExprFits.{ExprFits, begins_operand}
@@ -18,12 +18,12 @@ use Rattle.rf_jexpr.specs.NameReads.{type_use}
 use Rattle.rf_jexpr.specs.PartReads.{Parsers}
 use Rattle.rf_jexpr.specs.Reads.{◌>>=◌, when, is_op, begins}
 use Rattle.rf_jexpr.proofs.CallNames.{dotted-tokens, item-tokens}
-use Rattle.rf_jexpr.proofs.CastLemmas.{NoTypeParen, no_paren_type, bare, bare-read}
 use Rattle.rf_jexpr.proofs.CompleteNames.{no_brackets}
 use Rattle.rf_jexpr.proofs.CompleteParts.{AreComplete, reads-same}
 use Rattle.rf_jexpr.proofs.CompletePrimary.{op_other}
 use Rattle.rf_jexpr.proofs.First.{primary_binds, binary_level_less}
-use Rattle.rf_jexpr.proofs.StopLemmas.{apart_tok, of_kind, weaker}
+use Rattle.rf_jexpr.proofs.NoTypeLemmas.{NoTypeBefore, PassedByNone, no_type_before, bare, bare-read}
+use Rattle.rf_jexpr.proofs.StopLemmas.{apart_tok, no_op, of_kind, weaker}
 use Rattle.rf_jexpr.proofs.Tools.{bind-Some, bind-None, missing, there, perhaps, when-false, token-at, token-other, is_op-IsOp, IsOp-is_op}
 use Rattle.rf_jexpr.proofs.Within.{Within, within-Some, within-None, within-bind, within-when}
 
@@ -61,12 +61,24 @@ literal_no_paren tok rest h = weaker (is_op LEFT_PAREN tok) false (λ is. sym (n
     none : IsTrue (is_op LEFT_PAREN tok) → is_literal tok ≡ false
     none is = rw (is_op-IsOp LEFT_PAREN tok is) refl
 
+parens_passed : PassedByNone (is_op RIGHT_PAREN)
+unfolding is_op of_kind
+parens_passed = record {
+  binary = λ tok h. no_op RIGHT_PAREN refl tok h;
+  assignment = λ tok h. apart_tok (λ k. is_op RIGHT_PAREN (of_kind k)) ASSIGNMENTS refl tok h;
+  suffix = λ tok h. apart_tok (λ k. is_op RIGHT_PAREN (of_kind k)) SUFFIXES refl tok h;
+  instance = λ tok h. rw h refl;
+  question = λ tok h. rw h refl;
+  left_paren = λ tok h. rw h refl;
+  left_bracket = λ tok h. rw h refl;
+}
+
 module _ (m : ℕ) (p : Parsers) (c : AreComplete m p) where
   not_open : (toks : List Tok) → begins (is_op LEFT_PAREN) toks ≡ false → cast p toks ≡ None
   unfolding cast
   not_open toks h = bind-None _ _ (token-other (is_op LEFT_PAREN) toks h)
 
-  no_type_inside : (left : Tok) (toks : List Tok) → IsOp LEFT_PAREN left → NoTypeParen toks → cast p (left ∷ toks) ≡ None
+  no_type_inside : (left : Tok) (toks : List Tok) → IsOp LEFT_PAREN left → NoTypeBefore (is_op RIGHT_PAREN) toks → cast p (left ∷ toks) ≡ None
   unfolding cast
   no_type_inside left toks is none =
       bind-Some _ _ _ _ (token-at (is_op LEFT_PAREN) left toks (IsOp-is_op LEFT_PAREN left is)) (elim (perhaps (type_use toks)) [
@@ -85,14 +97,14 @@ module _ (m : ℕ) (p : Parsers) (c : AreComplete m p) where
 
   paren_no_cast : (left : Tok) (value : ExprTree) (right : Tok) (rest : List Tok) → AreParens left right → ExprFits value → begins begins_operand rest ≡ false → cast p (left ∷ (expr_yield value ++ right ∷ rest)) ≡ None
   paren_no_cast left (Name found) right rest parens fit none = name_inside left found right rest parens fit None (bind-None _ _ (when-false _ _ none))
-  paren_no_cast left value right rest parens fit none = no_type_inside left _ parens.0 (no_paren_type value (right ∷ rest) fit tt)
+  paren_no_cast left value right rest parens fit none = no_type_inside left _ parens.0 (no_type_before (is_op RIGHT_PAREN) parens_passed value (right ∷ rest) fit tt)
 
   paren_within : (left : Tok) (value : ExprTree) (right : Tok) (rest : List Tok) → AreParens left right → ExprFits value → Within (length rest) (cast p (left ∷ (expr_yield value ++ right ∷ rest)))
   paren_within left (Name found) right rest parens fit =
       let n = length rest in
       let within = within-bind n (when (begins begins_operand rest) (p.unary rest)) (λ value. Some (Cast left (bare found) right value.0, value.1)) (within-when n _ _ (c.bounded.unary n rest (le_refl n))) (λ value k. within-Some n _ k) in
       subst (Within n) (sym (name_inside left found right rest parens fit _ refl)) within
-  paren_within left value right rest parens fit = within-None _ _ (no_type_inside left _ parens.0 (no_paren_type value (right ∷ rest) fit tt))
+  paren_within left value right rest parens fit = within-None _ _ (no_type_inside left _ parens.0 (no_type_before (is_op RIGHT_PAREN) parens_passed value (right ∷ rest) fit tt))
 
   paren_tokens : (left : Tok) (value : ExprTree) (right : Tok) (rest : List Tok) → expr_yield (Paren left value right) ++ rest ≡ left ∷ (expr_yield value ++ right ∷ rest)
   paren_tokens left value right rest = ap (λ others. left ∷ others) (append_assoc (expr_yield value) (right ∷ []) rest)

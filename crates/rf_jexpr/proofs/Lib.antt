@@ -8,7 +8,7 @@ pub mod RoomLemmas
 pub mod TurnLemmas
 pub mod Bounded
 pub mod CallNames
-pub mod CastLemmas
+pub mod NoTypeLemmas
 pub mod CompleteBinary
 pub mod CompleteCast
 pub mod CompleteFirst

@@ -17,7 +17,7 @@ use Rattle.rf_jexpr.specs.PartReads.{Parsers}
 use Rattle.rf_jexpr.specs.Reads.{and_then, when, is_op, is_key, is_ident, begins, token, separated}
 use Rattle.rf_jexpr.specs.Stops.{begins_expr}
 use Rattle.rf_jexpr.proofs.CallNames.{alone, alone-fits}
-use Rattle.rf_jexpr.proofs.CastLemmas.{bare, bare-read}
+use Rattle.rf_jexpr.proofs.NoTypeLemmas.{bare, bare-read}
 use Rattle.rf_jexpr.proofs.CompleteNames.{no_brackets}
 use Rattle.rf_jexpr.proofs.First.{begins_first, expr_first-begins}
 use Rattle.rf_jexpr.proofs.StopLemmas.{weaker, false_or}
