@@ -1,0 +1,16 @@
+pub mod AccessForms
+pub mod AccessLemmas
+pub mod AtomStands
+pub mod Contexts
+pub mod Final
+pub mod FormRuns
+pub mod FormStands
+pub mod FrameLemmas
+pub mod HeadRuns
+pub mod HeadStands
+pub mod LineLemmas
+pub mod ParseLemmas
+pub mod ProgramRuns
+pub mod ProgramStands
+pub mod Runs
+pub mod Standing

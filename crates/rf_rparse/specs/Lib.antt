@@ -1,0 +1,9 @@
+pub mod Args
+pub mod Answers
+pub mod Atoms
+pub mod Forms
+pub mod Frames
+pub mod Heads
+pub mod Parts
+pub mod Programs
+pub mod Words
