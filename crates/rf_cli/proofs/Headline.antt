@@ -1,330 +1,122 @@
 -- What people read of a run, each from the way in which it ended.
-use Rattle.std.proofs.Common.{◌≡◌, ◌≢◌, ℕ, List, ◌⊎◌, Option, Some, None, IfSome, IsTrue, option_map, length, take, refl, sym, ap, subst, ◌∙◌, inl, inr}
-use Rattle.std.proofs.Math.Seq.{take-length}
+use Rattle.std.proofs.Common.{◌≡◌, ◌≢◌, ℕ, List, ◌⊎◌, IfSome, IsTrue, ◌∙◌, inl, inr}
 use Rattle.rf_world.specs.Fault.{Rose, next_count}
-use Rattle.rf_world.specs.World.{Files, MayHoldPrefix, with_file}
-use Rattle.rf_engine.specs.declared.first_form.FirstPath.{FirstPath}
-use Rattle.rf_engine.specs.declared.first_form.FirstPath.TheVariants.{Changed, Refused, NotYet}
-use Rattle.rf_engine.specs.FirstForm.{answer_of}
+use Rattle.rf_world.specs.World.{Files}
 use Rattle.rf_cli.specs.declared.status.Status.{Status}
 use Rattle.rf_cli.specs.declared.status.Status.TheVariants as status
-use Rattle.rf_cli.specs.Acting.{Acts, RunState, WriteEnd}
-use Rattle.rf_cli.specs.Command.{Apply, IsApply}
-use Rattle.rf_cli.specs.Put.{IsPut, Puts, bad_words_line, not_yet_line, read_fault_line}
-use Rattle.rf_cli.specs.Reads.{HoldsForm, IsRight}
+use Rattle.rf_cli.specs.Acting.{RunState}
+use Rattle.rf_cli.specs.Command.{AreBadWords, IsRules, built_in}
+use Rattle.rf_cli.specs.Put.{Puts, bad_words_line, not_yet_line, read_fault_line}
 use Rattle.rf_cli.specs.RunEnd.{RunEnd}
-use Rattle.rf_cli.specs.WholeRun.{AreBadWords, CountsAreSame, HasNoForm, HasRequest, IsChanged, IsExact, IsFault, IsRefused, MayHaveWritten, StandsWhole, TouchesOneFile, status_of}
-use Rattle.rf_cli.proofs.WholeRunLemmas.{Fails, has_answer, held, no_form, put_kept, put_line, put_other, put_rose, put_status, same_command}
-
-on_told : (told : Option Files) (P Q : Files → Type 0) → IfSome told P → ((files : Files) → told ≡ Some files → P files → Q files) → IfSome told Q
-on_told None P Q known step = tt
-on_told (Some files) P Q known step = step files refl known
-
-if_told : (told : Option Files) (Q : Files → Type 0) → ((files : Files) → told ≡ Some files → Q files) → IfSome told Q
-if_told None Q step = tt
-if_told (Some files) Q step = step files refl
-
-fails_is_fault : (result : Status) → Fails result → IsFault result
-fails_is_fault result fails = inr fails
+use Rattle.rf_cli.specs.WholeRun.{CountsAreSame, HasInput, HasNoForm, IsBadRules, IsChanged, IsExact, IsFault, IsPrinted, IsRefused, IsTooLarge, MayHaveWritten, StandsWhole, TouchesOneFile}
+use Rattle.rf_cli.proofs.ApplyEnds as apply
+use Rattle.rf_cli.proofs.ApplyEnds.{if_told, on_told, same_of}
+use Rattle.rf_cli.proofs.RulesEnds as rules
+use Rattle.rf_cli.proofs.WholeRunLemmas.{put_kept, put_line, put_other, put_rose, put_status}
 
 module _ (words : List (List ℕ)) (before after : RunState) (result : Status) where
-  abbrev Put : Status → List ℕ → Type 0
-  Put wanted line = IsPut wanted line before.sink after.sink result
+  abbrev End : Type 0
+  End = RunEnd words before after result
 
-  memory_other : (other : Status) → status.Memory ≢ other → result ≡ status.Memory → result ≡ other → ⊥
-  memory_other other apart is also = apart (sym is ∙ also)
-
-  module _ (command : Apply) (path : List ℕ) (is_apply : IsApply words command) where
-    abbrev Write : List ℕ → List ℕ → Type 0
-    Write bytes report = WriteEnd command.out path bytes report before after result
-
-    whole_file : (bytes report : List ℕ) → Write bytes report → result ≡ status.Ok → after.files ≡ option_map (with_file command.out path bytes) before.files
-    whole_file bytes report (WriteEnd.written files writes put) is = files
-    whole_file bytes report (WriteEnd.failed failed files rose said put) is = absurd (let e : status.WriteFault ≡ status.Ok = sym failed ∙ is in cc)
-    whole_file bytes report (WriteEnd.starved want files writes sink) is = absurd (memory_other status.Ok (λ e. cc) want is)
-
-    report_put : (bytes report : List ℕ) → Write bytes report → result ≡ status.Ok → Puts report before.sink.taken after.sink.taken
-    report_put bytes report (WriteEnd.written files writes put) is = put_line put (λ e. cc) (λ e. cc) is
-    report_put bytes report (WriteEnd.failed failed files rose said put) is = absurd (let e : status.WriteFault ≡ status.Ok = sym failed ∙ is in cc)
-    report_put bytes report (WriteEnd.starved want files writes sink) is = absurd (memory_other status.Ok (λ e. cc) want is)
-
-    part_file : (bytes report : List ℕ) → Write bytes report → MayHoldPrefix command.out path bytes before.files after.files
-    part_file bytes report (WriteEnd.written files writes put) =
-        inr (length bytes, files ∙ ap (λ part. option_map (with_file command.out path part) before.files) (sym (take-length bytes)))
-    part_file bytes report (WriteEnd.failed failed files rose said put) = files
-    part_file bytes report (WriteEnd.starved want files writes sink) = files
-
-    write_status : (bytes report : List ℕ) → Write bytes report → (result ≡ status.Ok) ⊎ Fails result
-    write_status bytes report (WriteEnd.written files writes put) = put_status put
-    write_status bytes report (WriteEnd.failed failed files rose said put) = inr (inl failed)
-    write_status bytes report (WriteEnd.starved want files writes sink) = inr (inr want)
-
-    write_other : (bytes report : List ℕ) → Write bytes report → (other : Status) → status.Ok ≢ other → status.WriteFault ≢ other → status.Memory ≢ other → result ≡ other → ⊥
-    write_other bytes report write other w f m is = elim (write_status bytes report write) [
-      | inl e ↦ w (sym e ∙ is)
-      | inr fails ↦ elim fails [ inl e ↦ f (sym e ∙ is) | inr e ↦ m (sym e ∙ is) ]
-    ]
-
-    write_rose : (bytes report : List ℕ) → Write bytes report → result ≡ status.WriteFault → Rose before.writes after.writes ⊎ Rose before.sink.faults after.sink.faults
-    write_rose bytes report (WriteEnd.written files writes put) is = inr (put_rose put (λ e. cc) is)
-    write_rose bytes report (WriteEnd.failed failed files rose said put) is = inl rose
-    write_rose bytes report (WriteEnd.starved want files writes sink) is = absurd (memory_other status.WriteFault (λ e. cc) want is)
-
-    still_whole : (bytes report : List ℕ) → Write bytes report → result ≡ status.WriteFault → (Rose before.writes after.writes → ⊥) → after.files ≡ option_map (with_file command.out path bytes) before.files
-    still_whole bytes report (WriteEnd.written files writes put) is still = files
-    still_whole bytes report (WriteEnd.failed failed files rose said put) is still = absurd (still rose)
-    still_whole bytes report (WriteEnd.starved want files writes sink) is still = absurd (memory_other status.WriteFault (λ e. cc) want is)
-
-    write_counts : (bytes report : List ℕ) → Write bytes report → Fails result ⊎ ((after.writes ≡ before.writes) × (after.sink.faults ≡ before.sink.faults))
-    write_counts bytes report (WriteEnd.written files writes put) = elim (put_kept put) [ inl fails ↦ inl fails | inr same ↦ inr (writes, same) ]
-    write_counts bytes report (WriteEnd.failed failed files rose said put) = inl (inl failed)
-    write_counts bytes report (WriteEnd.starved want files writes sink) = inl (inr want)
-
-    write_puts : (bytes report : List ℕ) → Write bytes report → (after.sink.puts ≡ next_count before.sink.puts) ⊎ ((result ≡ status.Memory) × (after.sink.puts ≡ before.sink.puts))
-    write_puts bytes report (WriteEnd.written files writes put) = inl put.once
-    write_puts bytes report (WriteEnd.failed failed files rose said put) = inl put.once
-    write_puts bytes report (WriteEnd.starved want files writes sink) = inr (want, ap (λ s. s.puts) sink)
-
-    abbrev Did : FirstPath → Type 0
-    Did answer = Acts command.out path answer before after result
-
-    changed_of : (files : Files) (answer : FirstPath) → before.files ≡ Some files → IsRight command files path answer → Did answer → result ≡ status.Ok → IsChanged words files after.files before.sink.taken after.sink.taken
-    changed_of files NotYet told right did is = absurd (put_other did.puts status.Ok (λ e. cc) (λ e. cc) (λ e. cc) is)
-    changed_of files (Refused report) told right did is = absurd (put_other did.puts status.Ok (λ e. cc) (λ e. cc) (λ e. cc) is)
-    changed_of files (Changed bytes report) told right did is = record {
-      command = command;
-      path = path;
-      bytes = bytes;
-      report = report;
-      answer = has_answer words command is_apply path files (Changed bytes report) right (λ e. cc);
-      written = whole_file bytes report did is ∙ ap (option_map (with_file command.out path bytes)) told;
-      line = report_put bytes report did is;
-    }
-
-    refused_of : (files : Files) (answer : FirstPath) → IsRight command files path answer → Did answer → result ≡ status.Refused → IsRefused words files before.sink.taken after.sink.taken
-    refused_of files NotYet right did is = absurd (put_other did.puts status.Refused (λ e. cc) (λ e. cc) (λ e. cc) is)
-    refused_of files (Changed bytes report) right did is = absurd (write_other bytes report did status.Refused (λ e. cc) (λ e. cc) (λ e. cc) is)
-    refused_of files (Refused report) right did is = record {
-      command = command;
-      path = path;
-      report = report;
-      answer = has_answer words command is_apply path files (Refused report) right (λ e. cc);
-      line = put_line did.puts (λ e. cc) (λ e. cc) is;
-    }
-
-    not_yet_of : (files : Files) (answer : FirstPath) → IsRight command files path answer → Did answer → result ≡ status.NotYet → HasNoForm words files
-    not_yet_of files NotYet right did is = no_form words command is_apply path files right
-    not_yet_of files (Refused report) right did is = absurd (put_other did.puts status.NotYet (λ e. cc) (λ e. cc) (λ e. cc) is)
-    not_yet_of files (Changed bytes report) right did is = absurd (write_other bytes report did status.NotYet (λ e. cc) (λ e. cc) (λ e. cc) is)
-
-    not_yet_line_of : (answer : FirstPath) → Did answer → result ≡ status.NotYet → Puts not_yet_line before.sink.taken after.sink.taken
-    not_yet_line_of NotYet did is = put_line did.puts (λ e. cc) (λ e. cc) is
-    not_yet_line_of (Refused report) did is = absurd (put_other did.puts status.NotYet (λ e. cc) (λ e. cc) (λ e. cc) is)
-    not_yet_line_of (Changed bytes report) did is = absurd (write_other bytes report did status.NotYet (λ e. cc) (λ e. cc) (λ e. cc) is)
-
-    did_status : (answer : FirstPath) → Did answer → (result ≡ status_of answer) ⊎ Fails result
-    did_status NotYet did = put_status did.puts
-    did_status (Refused report) did = put_status did.puts
-    did_status (Changed bytes report) did = write_status bytes report did
-
-    did_other : (answer : FirstPath) → Did answer → (other : Status) → ((answer : FirstPath) → status_of answer ≢ other) → status.WriteFault ≢ other → status.Memory ≢ other → result ≡ other → ⊥
-    did_other answer did other w f m is = elim (did_status answer did) [
-      | inl e ↦ w answer (sym e ∙ is)
-      | inr fails ↦ elim fails [ inl e ↦ f (sym e ∙ is) | inr e ↦ m (sym e ∙ is) ]
-    ]
-
-    did_rose : (answer : FirstPath) → Did answer → result ≡ status.WriteFault → Rose before.writes after.writes ⊎ Rose before.sink.faults after.sink.faults
-    did_rose NotYet did is = inr (put_rose did.puts (λ e. cc) is)
-    did_rose (Refused report) did is = inr (put_rose did.puts (λ e. cc) is)
-    did_rose (Changed bytes report) did is = write_rose bytes report did is
-
-    did_whole : (files : Files) (answer : FirstPath) → before.files ≡ Some files → IsRight command files path answer → Did answer → result ≡ status.WriteFault → (Rose before.writes after.writes → ⊥)
-        → StandsWhole words files after.files before.reads after.reads
-    did_whole files NotYet told right did is still = inr (record { same = did.stays.files ∙ told; cause = inr (inl (no_form words command is_apply path files right)) })
-    did_whole files (Refused report) told right did is still =
-        inr (record { same = did.stays.files ∙ told; cause = inr (inr (inl (record { command = command; path = path; report = report; answer = has_answer words command is_apply path files (Refused report) right (λ e. cc) }))) })
-    did_whole files (Changed bytes report) told right did is still = inl (record {
-      command = command;
-      path = path;
-      bytes = bytes;
-      report = report;
-      answer = has_answer words command is_apply path files (Changed bytes report) right (λ e. cc);
-      written = still_whole bytes report did is still ∙ ap (option_map (with_file command.out path bytes)) told;
-    })
-
-    or_fault : (wanted : Status) → (result ≡ wanted) ⊎ Fails result → (result ≡ wanted) ⊎ IsFault result
-    or_fault wanted which = elim which [ inl e ↦ inl e | inr fails ↦ inr (inr fails) ]
-
-    did_not_yet : (files : Files) (answer : FirstPath) → IsRight command files path answer → Did answer → HasNoForm words files → (result ≡ status.NotYet) ⊎ Fails result
-    did_not_yet files NotYet right did none = put_status did.puts
-    did_not_yet files (Refused report) right did none = absurd (held words command is_apply path files right.some_form (λ e. cc) none)
-    did_not_yet files (Changed bytes report) right did none = absurd (held words command is_apply path files right.some_form (λ e. cc) none)
-
-    did_exact : (files : Files) (answer : FirstPath) → IsRight command files path answer → Did answer → IsExact words files result
-    did_exact files answer right did = record {
-      bad_words = λ bad. absurd (bad command is_apply);
-      form = λ other at form other_is holds.
-          let mine : HoldsForm command files at form = subst (λ c. HoldsForm c files at form) (same_command words other command other_is is_apply) holds in
-          or_fault (status_of (answer_of form)) (subst (λ a. (result ≡ status_of a) ⊎ Fails result) (right.of_form at form mine).1 (did_status answer did));
-      no_form = λ none. or_fault status.NotYet (did_not_yet files answer right did none);
-    }
-
-    did_unchanged : (answer : FirstPath) → Did answer → MayHaveWritten result ⊎ (after.files ≡ before.files)
-    did_unchanged NotYet did = inr did.stays.files
-    did_unchanged (Refused report) did = inr did.stays.files
-    did_unchanged (Changed bytes report) did = inl (write_status bytes report did)
-
-    did_touched : (files : Files) (answer : FirstPath) → before.files ≡ Some files → IsRight command files path answer → Did answer → TouchesOneFile words files after.files
-    did_touched files NotYet told right did = inl (did.stays.files ∙ told)
-    did_touched files (Refused report) told right did = inl (did.stays.files ∙ told)
-    did_touched files (Changed bytes report) told right did = elim (part_file bytes report did) [
-      | inl same ↦ inl (same ∙ told)
-      | inr part ↦ inr (
-        part.0,
-        record {
-          command = command;
-          path = path;
-          bytes = bytes;
-          report = report;
-          answer = has_answer words command is_apply path files (Changed bytes report) right (λ e. cc);
-          written = part.1 ∙ ap (option_map (with_file command.out path (take part.0 bytes))) told;
-        },
-      )
-    ]
-
-    did_counts : (answer : FirstPath) → Did answer → Fails result ⊎ ((after.writes ≡ before.writes) × (after.sink.faults ≡ before.sink.faults))
-    did_counts NotYet did = elim (put_kept did.puts) [ inl fails ↦ inl fails | inr same ↦ inr (did.stays.writes, same) ]
-    did_counts (Refused report) did = elim (put_kept did.puts) [ inl fails ↦ inl fails | inr same ↦ inr (did.stays.writes, same) ]
-    did_counts (Changed bytes report) did = write_counts bytes report did
-
-    did_puts : (answer : FirstPath) → Did answer → (after.sink.puts ≡ next_count before.sink.puts) ⊎ ((result ≡ status.Memory) × (after.sink.puts ≡ before.sink.puts))
-    did_puts NotYet did = inl did.puts.once
-    did_puts (Refused report) did = inl did.puts.once
-    did_puts (Changed bytes report) did = write_puts bytes report did
-
-  answer_is_not : (other : Status) → status.Ok ≢ other → status.Refused ≢ other → status.NotYet ≢ other → (answer : FirstPath) → status_of answer ≢ other
-  answer_is_not other o r n NotYet = n
-  answer_is_not other o r n (Refused report) = r
-  answer_is_not other o r n (Changed bytes report) = o
-
-  pub ok : RunEnd words before after result → result ≡ status.Ok → IfSome before.files (λ files. IsChanged words files after.files before.sink.taken after.sink.taken)
+  pub ok : End → result ≡ status.Ok → IfSome before.files (λ files. IsChanged words files after.files before.sink.taken after.sink.taken ⊎ IsPrinted words files after.files before.sink.taken after.sink.taken)
   ok (RunEnd.bad_words bad reads only) is = absurd (put_other only.puts status.Ok (λ e. cc) (λ e. cc) (λ e. cc) is)
-  ok (RunEnd.read_fault rose never only) is = absurd (put_other only.puts status.Ok (λ e. cc) (λ e. cc) (λ e. cc) is)
-  ok (RunEnd.starved want reads stays sink) is = absurd (memory_other status.Ok (λ e. cc) want is)
-  ok (RunEnd.said command path answer is_apply right reads did) is =
-      on_told before.files (λ files. IsRight command files path answer) (λ files. IsChanged words files after.files before.sink.taken after.sink.taken) right
-      (λ files told its. changed_of command path is_apply files answer told its did is)
+  ok (RunEnd.applied command is_apply end) is =
+      on_told before.files (λ files. IsChanged words files after.files before.sink.taken after.sink.taken)
+      (λ files. IsChanged words files after.files before.sink.taken after.sink.taken ⊎ IsPrinted words files after.files before.sink.taken after.sink.taken)
+      (apply.apply_ok words before after result command is_apply end is) (λ files told its. inl its)
+  ok (RunEnd.ruled file is_rules end) is =
+      on_told before.files (λ files. IsPrinted words files after.files before.sink.taken after.sink.taken)
+      (λ files. IsChanged words files after.files before.sink.taken after.sink.taken ⊎ IsPrinted words files after.files before.sink.taken after.sink.taken)
+      (rules.rules_ok words before after result file is_rules end is) (λ files told its. inr its)
 
-  pub refused : RunEnd words before after result → result ≡ status.Refused → IfSome before.files (λ files. IsRefused words files before.sink.taken after.sink.taken)
+  pub refused : End → result ≡ status.Refused → IfSome before.files (λ files. IsRefused words files before.sink.taken after.sink.taken)
   refused (RunEnd.bad_words bad reads only) is = absurd (put_other only.puts status.Refused (λ e. cc) (λ e. cc) (λ e. cc) is)
-  refused (RunEnd.read_fault rose never only) is = absurd (put_other only.puts status.Refused (λ e. cc) (λ e. cc) (λ e. cc) is)
-  refused (RunEnd.starved want reads stays sink) is = absurd (memory_other status.Refused (λ e. cc) want is)
-  refused (RunEnd.said command path answer is_apply right reads did) is =
-      on_told before.files (λ files. IsRight command files path answer) (λ files. IsRefused words files before.sink.taken after.sink.taken) right
-      (λ files told its. refused_of command path is_apply files answer its did is)
+  refused (RunEnd.applied command is_apply end) is = apply.apply_refused words before after result command is_apply end is
+  refused (RunEnd.ruled file is_rules end) is =
+      absurd (rules.no_other words before after result file is_rules status.Refused (λ e. cc) (λ e. cc) (λ e. cc) (λ e. cc) (λ e. cc) (λ e. cc) (λ e. cc) end is)
 
-  pub bad_words : RunEnd words before after result → result ≡ status.BadWords → AreBadWords words × Puts bad_words_line before.sink.taken after.sink.taken
+  pub bad_words : End → result ≡ status.BadWords → AreBadWords words × Puts bad_words_line before.sink.taken after.sink.taken
   bad_words (RunEnd.bad_words bad reads only) is = (bad, put_line only.puts (λ e. cc) (λ e. cc) is)
-  bad_words (RunEnd.read_fault rose never only) is = absurd (put_other only.puts status.BadWords (λ e. cc) (λ e. cc) (λ e. cc) is)
-  bad_words (RunEnd.starved want reads stays sink) is = absurd (memory_other status.BadWords (λ e. cc) want is)
-  bad_words (RunEnd.said command path answer is_apply right reads did) is =
-      absurd (did_other command path is_apply answer did status.BadWords (answer_is_not status.BadWords (λ e. cc) (λ e. cc) (λ e. cc)) (λ e. cc) (λ e. cc) is)
+  bad_words (RunEnd.applied command is_apply end) is =
+      absurd (apply.no_other words before after result command is_apply status.BadWords (λ e. cc) (λ e. cc) (λ e. cc) (λ e. cc) (λ e. cc) (λ e. cc) end is)
+  bad_words (RunEnd.ruled file is_rules end) is =
+      absurd (rules.no_other words before after result file is_rules status.BadWords (λ e. cc) (λ e. cc) (λ e. cc) (λ e. cc) (λ e. cc) (λ e. cc) (λ e. cc) end is)
 
-  pub not_yet : RunEnd words before after result → result ≡ status.NotYet → IfSome before.files (HasNoForm words)
+  pub bad_rules : End → result ≡ status.BadRules → IfSome before.files (λ files. IsBadRules words files before.sink.taken after.sink.taken)
+  bad_rules (RunEnd.bad_words bad reads only) is = absurd (put_other only.puts status.BadRules (λ e. cc) (λ e. cc) (λ e. cc) is)
+  bad_rules (RunEnd.applied command is_apply end) is =
+      absurd (apply.no_other words before after result command is_apply status.BadRules (λ e. cc) (λ e. cc) (λ e. cc) (λ e. cc) (λ e. cc) (λ e. cc) end is)
+  bad_rules (RunEnd.ruled file is_rules end) is = rules.rules_bad words before after result file is_rules end is
+
+  pub too_large : End → result ≡ status.TooLarge → IfSome before.files (λ files. IsTooLarge words files before.sink.taken after.sink.taken)
+  too_large (RunEnd.bad_words bad reads only) is = absurd (put_other only.puts status.TooLarge (λ e. cc) (λ e. cc) (λ e. cc) is)
+  too_large (RunEnd.applied command is_apply end) is =
+      absurd (apply.no_other words before after result command is_apply status.TooLarge (λ e. cc) (λ e. cc) (λ e. cc) (λ e. cc) (λ e. cc) (λ e. cc) end is)
+  too_large (RunEnd.ruled file is_rules end) is = rules.rules_too_large words before after result file is_rules end is
+
+  pub not_yet : End → result ≡ status.NotYet → IfSome before.files (λ files. HasNoForm words files ⊎ IsRules words built_in)
   not_yet (RunEnd.bad_words bad reads only) is = absurd (put_other only.puts status.NotYet (λ e. cc) (λ e. cc) (λ e. cc) is)
-  not_yet (RunEnd.read_fault rose never only) is = absurd (put_other only.puts status.NotYet (λ e. cc) (λ e. cc) (λ e. cc) is)
-  not_yet (RunEnd.starved want reads stays sink) is = absurd (memory_other status.NotYet (λ e. cc) want is)
-  not_yet (RunEnd.said command path answer is_apply right reads did) is =
-      on_told before.files (λ files. IsRight command files path answer) (HasNoForm words) right
-      (λ files told its. not_yet_of command path is_apply files answer its did is)
+  not_yet (RunEnd.applied command is_apply end) is =
+      on_told before.files (HasNoForm words) (λ files. HasNoForm words files ⊎ IsRules words built_in)
+      (apply.apply_not_yet words before after result command is_apply end is) (λ files told its. inl its)
+  not_yet (RunEnd.ruled file is_rules end) is =
+      if_told before.files (λ files. HasNoForm words files ⊎ IsRules words built_in) (λ files told. inr (rules.rules_not_yet words before after result file is_rules end is).0)
 
-  pub not_yet_put : RunEnd words before after result → result ≡ status.NotYet → Puts not_yet_line before.sink.taken after.sink.taken
+  pub not_yet_put : End → result ≡ status.NotYet → Puts not_yet_line before.sink.taken after.sink.taken
   not_yet_put (RunEnd.bad_words bad reads only) is = absurd (put_other only.puts status.NotYet (λ e. cc) (λ e. cc) (λ e. cc) is)
-  not_yet_put (RunEnd.read_fault rose never only) is = absurd (put_other only.puts status.NotYet (λ e. cc) (λ e. cc) (λ e. cc) is)
-  not_yet_put (RunEnd.starved want reads stays sink) is = absurd (memory_other status.NotYet (λ e. cc) want is)
-  not_yet_put (RunEnd.said command path answer is_apply right reads did) is = not_yet_line_of command path is_apply answer did is
+  not_yet_put (RunEnd.applied command is_apply end) is = apply.apply_not_yet_put words before after result command is_apply end is
+  not_yet_put (RunEnd.ruled file is_rules end) is = (rules.rules_not_yet words before after result file is_rules end is).1
 
-  pub read_fault : RunEnd words before after result → result ≡ status.ReadFault → Rose before.reads after.reads × Puts read_fault_line before.sink.taken after.sink.taken
+  pub read_fault : End → result ≡ status.ReadFault → Rose before.reads after.reads × Puts read_fault_line before.sink.taken after.sink.taken
   read_fault (RunEnd.bad_words bad reads only) is = absurd (put_other only.puts status.ReadFault (λ e. cc) (λ e. cc) (λ e. cc) is)
-  read_fault (RunEnd.read_fault rose never only) is = (rose, put_line only.puts (λ e. cc) (λ e. cc) is)
-  read_fault (RunEnd.starved want reads stays sink) is = absurd (memory_other status.ReadFault (λ e. cc) want is)
-  read_fault (RunEnd.said command path answer is_apply right reads did) is =
-      absurd (did_other command path is_apply answer did status.ReadFault (answer_is_not status.ReadFault (λ e. cc) (λ e. cc) (λ e. cc)) (λ e. cc) (λ e. cc) is)
+  read_fault (RunEnd.applied command is_apply end) is = apply.apply_read_fault words before after result command is_apply end is
+  read_fault (RunEnd.ruled file is_rules end) is = rules.rules_read_fault words before after result file is_rules end is
 
-  pub write_fault : RunEnd words before after result → result ≡ status.WriteFault → Rose before.writes after.writes ⊎ Rose before.sink.faults after.sink.faults
+  pub write_fault : End → result ≡ status.WriteFault → Rose before.writes after.writes ⊎ Rose before.sink.faults after.sink.faults
   write_fault (RunEnd.bad_words bad reads only) is = inr (put_rose only.puts (λ e. cc) is)
-  write_fault (RunEnd.read_fault rose never only) is = inr (put_rose only.puts (λ e. cc) is)
-  write_fault (RunEnd.starved want reads stays sink) is = absurd (memory_other status.WriteFault (λ e. cc) want is)
-  write_fault (RunEnd.said command path answer is_apply right reads did) is = did_rose command path is_apply answer did is
+  write_fault (RunEnd.applied command is_apply end) is = apply.apply_write_fault words before after result command is_apply end is
+  write_fault (RunEnd.ruled file is_rules end) is = inr (rules.rules_write_fault words before after result file is_rules end is)
 
-  pub write_fault_whole : RunEnd words before after result → result ≡ status.WriteFault → (Rose before.writes after.writes → ⊥) → IfSome before.files (λ files. StandsWhole words files after.files before.reads after.reads)
+  pub write_fault_whole : End → result ≡ status.WriteFault → (Rose before.writes after.writes → ⊥) → IfSome before.files (λ files. StandsWhole words files after.files before.reads after.reads)
   write_fault_whole (RunEnd.bad_words bad reads only) is still =
       if_told before.files (λ files. StandsWhole words files after.files before.reads after.reads) (λ files told. inr (record { same = only.stays.files ∙ told; cause = inl bad }))
-  write_fault_whole (RunEnd.read_fault rose never only) is still =
-      if_told before.files (λ files. StandsWhole words files after.files before.reads after.reads) (λ files told. inr (record { same = only.stays.files ∙ told; cause = inr (inr (inr rose)) }))
-  write_fault_whole (RunEnd.starved want reads stays sink) is still = absurd (memory_other status.WriteFault (λ e. cc) want is)
-  write_fault_whole (RunEnd.said command path answer is_apply right reads did) is still =
-      on_told before.files (λ files. IsRight command files path answer) (λ files. StandsWhole words files after.files before.reads after.reads) right
-      (λ files told its. did_whole command path is_apply files answer told its did is still)
+  write_fault_whole (RunEnd.applied command is_apply end) is still = apply.apply_write_fault_whole words before after result command is_apply end is still
+  write_fault_whole (RunEnd.ruled file is_rules end) is still = rules.rules_whole words before after result file is_rules end
 
-  fault_exact : (files : Files) → IsFault result → IsExact words files result
-  fault_exact files fault = record {
-    bad_words = λ bad. inr fault;
-    form = λ command at form is_apply holds. inr fault;
-    no_form = λ none. inr fault;
-  }
-
-  read_fails : (result ≡ status.ReadFault) ⊎ Fails result → IsFault result
-  read_fails which = elim which [ inl e ↦ inl e | inr fails ↦ inr fails ]
-
-  pub exact : RunEnd words before after result → IfSome before.files (λ files. IsExact words files result)
+  pub exact : End → IfSome before.files (λ files. IsExact words files result)
   exact (RunEnd.bad_words bad reads only) = if_told before.files (λ files. IsExact words files result) (λ files told. record {
     bad_words = λ again. elim (put_status only.puts) [ inl e ↦ inl e | inr fails ↦ inr (inr fails) ];
-    form = λ command at form is_apply holds. absurd (bad command is_apply);
-    no_form = λ none. absurd (bad none.command none.is_apply);
+    form = λ command at form is_apply holds. absurd (bad.no_apply command is_apply);
+    no_form = λ none. absurd (bad.no_apply none.command none.is_apply);
+    rules = λ file bytes is_rules given stands. absurd (bad.no_rules file is_rules);
+    built_in_rules = λ is_rules. absurd (bad.no_rules built_in is_rules);
   })
-  exact (RunEnd.read_fault rose never only) = if_told before.files (λ files. IsExact words files result) (λ files told. fault_exact files (read_fails (put_status only.puts)))
-  exact (RunEnd.starved want reads stays sink) = if_told before.files (λ files. IsExact words files result) (λ files told. fault_exact files (inr (inr want)))
-  exact (RunEnd.said command path answer is_apply right reads did) =
-      on_told before.files (λ files. IsRight command files path answer) (λ files. IsExact words files result) right
-      (λ files told its. did_exact command path is_apply files answer its did)
+  exact (RunEnd.applied command is_apply end) = apply.apply_exact words before after result command is_apply end
+  exact (RunEnd.ruled file is_rules end) = rules.rules_exact words before after result file is_rules end
 
-  pub unchanged : RunEnd words before after result → MayHaveWritten result ⊎ (after.files ≡ before.files)
+  pub unchanged : End → MayHaveWritten result ⊎ (after.files ≡ before.files)
   unchanged (RunEnd.bad_words bad reads only) = inr only.stays.files
-  unchanged (RunEnd.read_fault rose never only) = inr only.stays.files
-  unchanged (RunEnd.starved want reads stays sink) = inr stays.files
-  unchanged (RunEnd.said command path answer is_apply right reads did) = did_unchanged command path is_apply answer did
+  unchanged (RunEnd.applied command is_apply end) = apply.apply_unchanged words before after result command is_apply end
+  unchanged (RunEnd.ruled file is_rules end) = inr (rules.rules_files words before after result file is_rules end)
 
-  pub touched : RunEnd words before after result → IfSome before.files (λ files. TouchesOneFile words files after.files)
+  pub touched : End → IfSome before.files (λ files. TouchesOneFile words files after.files)
   touched (RunEnd.bad_words bad reads only) = if_told before.files (λ files. TouchesOneFile words files after.files) (λ files told. inl (only.stays.files ∙ told))
-  touched (RunEnd.read_fault rose never only) = if_told before.files (λ files. TouchesOneFile words files after.files) (λ files told. inl (only.stays.files ∙ told))
-  touched (RunEnd.starved want reads stays sink) = if_told before.files (λ files. TouchesOneFile words files after.files) (λ files told. inl (stays.files ∙ told))
-  touched (RunEnd.said command path answer is_apply right reads did) =
-      on_told before.files (λ files. IsRight command files path answer) (λ files. TouchesOneFile words files after.files) right
-      (λ files told its. did_touched command path is_apply files answer told its did)
+  touched (RunEnd.applied command is_apply end) = apply.apply_touched words before after result command is_apply end
+  touched (RunEnd.ruled file is_rules end) =
+      if_told before.files (λ files. TouchesOneFile words files after.files) (λ files told. inl (rules.rules_files words before after result file is_rules end ∙ told))
 
-  same_of : after.reads ≡ before.reads → Fails result ⊎ ((after.writes ≡ before.writes) × (after.sink.faults ≡ before.sink.faults))
-      → IsFault result ⊎ CountsAreSame before.reads before.writes before.sink.faults after.reads after.writes after.sink.faults
-  same_of reads which = elim which [
-    | inl fails ↦ inl (inr fails)
-    | inr same ↦ inr (record { same_reads = reads; same_writes = same.0; same_puts = same.1 })
-  ]
+  pub counts : End → IsFault result ⊎ CountsAreSame before.reads before.writes before.sink.faults after.reads after.writes after.sink.faults
+  counts (RunEnd.bad_words bad reads only) =
+      same_of words before after result reads (elim (put_kept only.puts) [ inl fails ↦ inl fails | inr same ↦ inr (only.stays.writes, same) ])
+  counts (RunEnd.applied command is_apply end) = apply.apply_counts words before after result command is_apply end
+  counts (RunEnd.ruled file is_rules end) = rules.rules_counts words before after result file is_rules end
 
-  pub counts : RunEnd words before after result → IsFault result ⊎ CountsAreSame before.reads before.writes before.sink.faults after.reads after.writes after.sink.faults
-  counts (RunEnd.bad_words bad reads only) = same_of reads (elim (put_kept only.puts) [ inl fails ↦ inl fails | inr same ↦ inr (only.stays.writes, same) ])
-  counts (RunEnd.read_fault rose never only) = inl (read_fails (put_status only.puts))
-  counts (RunEnd.starved want reads stays sink) = inl (inr (inr want))
-  counts (RunEnd.said command path answer is_apply right reads did) = same_of reads (did_counts command path is_apply answer did)
-
-  pub honest : RunEnd words before after result → IsTrue before.honest → IfSome before.files (HasRequest words) → (result ≢ status.ReadFault) × (after.reads ≡ before.reads)
+  pub honest : End → IsTrue before.honest → IfSome before.files (HasInput words) → (result ≢ status.ReadFault) × (after.reads ≡ before.reads)
   honest (RunEnd.bad_words bad reads only) is asked = (put_other only.puts status.ReadFault (λ e. cc) (λ e. cc) (λ e. cc), reads)
-  honest (RunEnd.read_fault rose never only) is asked = absurd (never is asked)
-  honest (RunEnd.starved want reads stays sink) is asked = (memory_other status.ReadFault (λ e. cc) want, reads)
-  honest (RunEnd.said command path answer is_apply right reads did) is asked =
-      (did_other command path is_apply answer did status.ReadFault (answer_is_not status.ReadFault (λ e. cc) (λ e. cc) (λ e. cc)) (λ e. cc) (λ e. cc), reads)
+  honest (RunEnd.applied command is_apply end) is asked = apply.apply_honest words before after result command is_apply end is asked
+  honest (RunEnd.ruled file is_rules end) is asked = rules.rules_honest words before after result file is_rules end is asked
 
-  pub puts : RunEnd words before after result → (after.sink.puts ≡ next_count before.sink.puts) ⊎ ((result ≡ status.Memory) × (after.sink.puts ≡ before.sink.puts))
+  pub puts : End → (after.sink.puts ≡ next_count before.sink.puts) ⊎ ((result ≡ status.Memory) × (after.sink.puts ≡ before.sink.puts))
   puts (RunEnd.bad_words bad reads only) = inl only.puts.once
-  puts (RunEnd.read_fault rose never only) = inl only.puts.once
-  puts (RunEnd.starved want reads stays sink) = inr (want, ap (λ s. s.puts) sink)
-  puts (RunEnd.said command path answer is_apply right reads did) = did_puts command path is_apply answer did
+  puts (RunEnd.applied command is_apply end) = apply.apply_puts words before after result command is_apply end
+  puts (RunEnd.ruled file is_rules end) = rules.rules_puts words before after result file is_rules end

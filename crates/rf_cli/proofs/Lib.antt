@@ -3,3 +3,5 @@ pub mod JavaFileLemmas
 pub mod ListingLemmas
 pub mod ReadLemmas
 pub mod WholeRunLemmas
+mod ApplyEnds
+mod RulesEnds

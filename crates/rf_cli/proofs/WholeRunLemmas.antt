@@ -1,7 +1,9 @@
 -- What was decided, and what a put and a write may have come to.
-use Rattle.std.proofs.Common.{◌≡◌, ◌≢◌, ℕ, Bool, true, false, cond, List, [], ◌⊎◌, Option, Some, None, IfSome, IsSome, sym, subst, ◌∙◌, inl, inr}
+use Rattle.std.proofs.Common.{◌≡◌, ◌≢◌, ℕ, Bool, true, false, cond, List, [], ◌⊎◌, Option, Some, None, sym, subst, ◌∙◌, inl, inr}
 use Rattle.std.specs.List.{list_any}
 use Rattle.std.specs.Str.{bytes_eq}
+use Rattle.std.proofs.lemmas.Bool.{false≢true}
+use Rattle.std.proofs.lemmas.Slice.Eq.{bytes_eq-Decides}
 use Rattle.rf_world.specs.Fault.{Rose}
 use Rattle.rf_world.specs.World.{Files, MayHoldPrefix}
 use Rattle.rf_engine.specs.declared.first_form.FirstPath.{FirstPath}
@@ -11,10 +13,10 @@ use Rattle.rf_engine.specs.ClassFile.{names_of}
 use Rattle.rf_cli.specs.declared.status.Status.{Status}
 use Rattle.rf_cli.specs.declared.status.Status.TheVariants as status
 use Rattle.rf_cli.specs.Acting.{RunState, WriteEnd, run_state, Acts}
-use Rattle.rf_cli.specs.Command.{Apply, IsApply}
+use Rattle.rf_cli.specs.Command.{Apply, IsApply, IsRules, built_in}
 use Rattle.rf_cli.specs.Put.{IsPut, PutEnd, Puts, SinkState, PutsWriteFault}
 use Rattle.rf_cli.specs.Reads.{HoldsForm, IsRight}
-use Rattle.rf_cli.specs.WholeRun.{HasAnswer, HasNoForm, HasRequest}
+use Rattle.rf_cli.specs.WholeRun.{HasAnswer, HasNoForm}
 
 -- a failed call or want of memory, other than of a read
 abbrev pub Fails : Status → Type 0
@@ -38,6 +40,22 @@ same_command words a b first second =
     let out : a.out ≡ b.out = cc in
     let request : a.request ≡ b.request = cc in
     λ i. record { src = src i; lib = lib i; out = out i; request = request i }
+
+-- the words ask for one rule file at most
+pub same_file : (words : List (List ℕ)) (a b : List ℕ) → IsRules words a → IsRules words b → a ≡ b
+same_file words a b first second =
+    let same = sym first.words_are ∙ second.words_are in
+    cc
+
+-- a file that was compared with `-` isn't the built-in rules
+pub not_built_in : (file dash : List ℕ) (same : Bool) → same ≡ bytes_eq file dash → same ≡ false → dash ≡ built_in → file ≢ built_in
+not_built_in file dash same told not_same dash_is is = false≢true (sym not_same ∙ told ∙ (bytes_eq-Decides file dash).1 (is ∙ sym dash_is))
+
+-- and not for a rule file where they are `apply`
+pub no_rules : (words : List (List ℕ)) (command : Apply) (file : List ℕ) → IsApply words command → IsRules words file → ⊥
+no_rules words command file first second =
+    let same = sym first.words_are ∙ second.words_are in
+    absurd (cc)
 
 module _ (words : List (List ℕ)) (command : Apply) (is_apply : IsApply words command) (path : List ℕ) where
   -- what the files hold is what was decided
@@ -90,11 +108,6 @@ module _ {wanted : Status} {line : List ℕ} {before after : SinkState} {result 
     | inl e ↦ w (sym e ∙ is)
     | inr fails ↦ elim fails [ inl e ↦ f (sym e ∙ is) | inr e ↦ m (sym e ∙ is) ]
   ]
-
--- the request of the command is there
-pub request_is_there : (words : List (List ℕ)) (command : Apply) (told : Option Files) → IsApply words command → IfSome told (HasRequest words) → IfSome told (λ files. IsSome (files [] command.request))
-request_is_there words command None is_apply there = tt
-request_is_there words command (Some files) is_apply there = there command is_apply
 
 -- the state after the decision is that before it
 pub acts_from : (out path : List ℕ) (answer : FirstPath) (files now : Option Files) (reads reads_now writes writes_now : ℕ) (honest honest_now : Bool) (sink : SinkState) (after : RunState) (result : Status)

@@ -3,6 +3,7 @@ pub mod Command
 pub mod Listing
 pub mod Put
 pub mod Reads
+pub mod RulesEnd
 pub mod RunEnd
 pub mod Status
 pub mod WholeRun

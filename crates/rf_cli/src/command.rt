@@ -1,5 +1,5 @@
-ghost use Rattle.std.specs.Prelude.{◌≡◌, ◌↔◌, IsTrue, MatchOption};
-ghost use Rattle.rf_cli.specs.Command.{Apply, IsApply, IsPossible, command_seen};
+ghost use Rattle.std.specs.Prelude.{◌≡◌, ◌↔◌, ℕ, List, IsTrue, MatchOption};
+ghost use Rattle.rf_cli.specs.Command.{Apply, AreBadWords, IsApply, IsCommand, IsPossible, IsRules, command_seen};
 
 use rf_text::Bytes;
 
@@ -12,8 +12,27 @@ pub(crate) struct ApplyWords<'a> {
     pub request: &'a [u8],
 }
 
+/// A command with its words.
+#[derive(Clone, Copy, Debug)]
+pub(crate) enum Command<'a> {
+    Apply(ApplyWords<'a>),
+    /// `rules FILE`, with FILE.
+    Rules(&'a [u8]),
+}
+
 /// The command that the words are, read by position, or `None` where they are none.
-pub(crate) fn parse(words: &[Bytes]) -> Option<ApplyWords<'_>>
+pub(crate) fn parse(words: &[Bytes]) -> Option<Command<'_>>
+    ensures { MatchOption result (AreBadWords words.now) (IsCommand words.now) }
+{
+    if let Some(command) = apply_words(words) {
+        return Some(Command::Apply(command));
+    }
+    let file = rules_file(words)?;
+    Some(Command::Rules(file))
+}
+
+/// The words of `apply`, or `None` where they aren't that command.
+fn apply_words(words: &[Bytes]) -> Option<ApplyWords<'_>>
     ensures { MatchOption result
         ((command : Apply) → IsApply words.now command → ⊥)
         (λ command. IsApply words.now (command_seen command)) }
@@ -36,6 +55,20 @@ pub(crate) fn parse(words: &[Bytes]) -> Option<ApplyWords<'_>>
         return None;
     }
     Some(command)
+}
+
+/// The file of `rules`, or `None` where the words aren't that command.
+fn rules_file(words: &[Bytes]) -> Option<&[u8]>
+    ensures { MatchOption result
+        ((file : List ℕ) → IsRules words.now file → ⊥)
+        (λ file. IsRules words.now file.now) }
+{
+    let (word, words) = words.split_first()?;
+    let (file, words) = words.split_first()?;
+    if !words.is_empty() || !is_text(word, b"rules") || file.is_empty() {
+        return None;
+    }
+    Some(file.as_slice())
 }
 
 fn is_text(word: &Bytes, text: &[u8]) -> bool

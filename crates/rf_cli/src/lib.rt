@@ -6,6 +6,7 @@ mod decide;
 mod java_files;
 mod listing;
 mod put;
+mod rule_files;
 mod status;
 mod whole_run;
 

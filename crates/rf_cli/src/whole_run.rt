@@ -2,13 +2,15 @@ ghost use Rattle.std.specs.Prelude.{◌≡◌, ◌≢◌, ◌⊎◌, IfSome, IsT
 ghost use Rattle.rf_world.specs.Fault.{Rose, next_count};
 ghost use Rattle.rf_cli.specs.Acting.{Acts, run_state};
 ghost use Rattle.rf_cli.specs.Put.{Puts, bad_words_line, not_yet_line, read_fault_line, sink_state};
-ghost use Rattle.rf_cli.specs.RunEnd.{RunEnd};
-ghost use Rattle.rf_cli.specs.WholeRun.{AreBadWords, CountsAreSame, HasNoForm, HasRequest, IsChanged, IsExact, IsFault, IsRefused, MayHaveWritten, StandsWhole, TouchesOneFile};
+ghost use Rattle.rf_cli.specs.Command.{AreBadWords, IsRules, built_in, command_seen};
+ghost use Rattle.rf_cli.specs.RunEnd.{ApplyEnd, RunEnd};
+ghost use Rattle.rf_cli.specs.WholeRun.{CountsAreSame, HasInput, HasNoForm, IsBadRules, IsChanged, IsExact, IsFault, IsPrinted, IsRefused, IsTooLarge, MayHaveWritten, StandsWhole, TouchesOneFile};
 
 use crate::Status;
-use crate::command::{ApplyWords, parse};
+use crate::command::{ApplyWords, Command, parse};
 use crate::decide::{Decision, decide};
 use crate::put::{put, put_write_fault};
+use crate::rule_files::rules;
 use rf_engine::FirstPath;
 use rf_text::Bytes;
 use rf_world::{Sink, World, WorldErr};
@@ -19,6 +21,8 @@ use std::alloc::Global;
 /// `apply SRC LIB OUT REQFILE` reads the request at REQFILE, with the empty root, then lists SRC and reads its one Java
 /// file. The words are read first, a LIB other than `-` is answered next, then come the request, the number of files
 /// and the file. Then the changed file is written under OUT, and last the lines of the answer are put in one call.
+///
+/// `rules FILE` reads the rule file at FILE, with the empty root, and puts its plain print, or what is wrong with it.
 pub fn run<W: World, S: Sink>(alloc: Global, words: &[Bytes], world: &mut W, out: &mut S) -> Status
     // How it ends: the cause, what is written, and the one line that is put, whole or a front of it.
     ensures ends { RunEnd words.now
@@ -31,13 +35,19 @@ pub fn run<W: World, S: Sink>(alloc: Global, words: &[Bytes], world: &mut W, out
 
     // When each status comes, and what is put and written then.
     ensures ok { result ≡ Status.Ok → IfSome (W.told world.old)
-        (λ files. IsChanged words.now files (W.told world.new) (S.told out.old) (S.told out.new)) }
+        (λ files. IsChanged words.now files (W.told world.new) (S.told out.old) (S.told out.new)
+        ⊎ IsPrinted words.now files (W.told world.new) (S.told out.old) (S.told out.new)) }
     ensures refused { result ≡ Status.Refused → IfSome (W.told world.old)
         (λ files. IsRefused words.now files (S.told out.old) (S.told out.new)) }
     ensures bad_words { result ≡ Status.BadWords → AreBadWords words.now }
     ensures bad_words_put { result ≡ Status.BadWords
         → Puts bad_words_line (S.told out.old) (S.told out.new) }
-    ensures not_yet { result ≡ Status.NotYet → IfSome (W.told world.old) (HasNoForm words.now) }
+    ensures bad_rules { result ≡ Status.BadRules → IfSome (W.told world.old)
+        (λ files. IsBadRules words.now files (S.told out.old) (S.told out.new)) }
+    ensures too_large { result ≡ Status.TooLarge → IfSome (W.told world.old)
+        (λ files. IsTooLarge words.now files (S.told out.old) (S.told out.new)) }
+    ensures not_yet { result ≡ Status.NotYet → IfSome (W.told world.old)
+        (λ files. HasNoForm words.now files ⊎ IsRules words.now built_in) }
     ensures not_yet_put { result ≡ Status.NotYet
         → Puts not_yet_line (S.told out.old) (S.told out.new) }
     ensures read_fault { result ≡ Status.ReadFault
@@ -63,7 +73,7 @@ pub fn run<W: World, S: Sink>(alloc: Global, words: &[Bytes], world: &mut W, out
         ⊎ CountsAreSame (W.read_faults world.old) (W.write_faults world.old) (S.faults out.old)
         (W.read_faults world.new) (W.write_faults world.new) (S.faults out.new) }
     ensures honest { IsTrue (W.honest world.old)
-        → IfSome (W.told world.old) (HasRequest words.now)
+        → IfSome (W.told world.old) (HasInput words.now)
         → (result ≢ Status.ReadFault) × (W.read_faults world.new ≡ W.read_faults world.old) }
 
     // At most one line is put, and exactly one where memory is not wanted.
@@ -83,11 +93,30 @@ fn go<W: World, S: Sink>(alloc: Global, words: &[Bytes], world: &mut W, out: &mu
         (W.honest world.new)
         (sink_state (S.told out.new) (S.faults out.new) (S.puts out.new))) result }
 {
-    let Some(command) = parse(words) else {
-        return put(alloc, out, b"bad words\n", Status::BadWords);
-    };
-    match decide(alloc, &command, world) {
-        Ok(decision) => act(alloc, &command, decision, world, out),
+    match parse(words) {
+        None => put(alloc, out, b"bad words\n", Status::BadWords),
+        Some(Command::Apply(command)) => apply(alloc, &command, world, out),
+        Some(Command::Rules(file)) => rules(alloc, file, world, out),
+    }
+}
+
+/// Runs `apply`.
+fn apply<W: World, S: Sink>(
+    alloc: Global,
+    command: &ApplyWords<'_>,
+    world: &mut W,
+    out: &mut S,
+) -> Status
+    ensures { ApplyEnd (command_seen command.now)
+        (run_state (W.told world.old) (W.read_faults world.old) (W.write_faults world.old)
+        (W.honest world.old)
+        (sink_state (S.told out.old) (S.faults out.old) (S.puts out.old)))
+        (run_state (W.told world.new) (W.read_faults world.new) (W.write_faults world.new)
+        (W.honest world.new)
+        (sink_state (S.told out.new) (S.faults out.new) (S.puts out.new))) result }
+{
+    match decide(alloc, command, world) {
+        Ok(decision) => act(alloc, command, decision, world, out),
         Err(WorldErr::Failed) => put(alloc, out, b"read fault\n", Status::ReadFault),
         Err(WorldErr::Memory) => Status::Memory,
     }

@@ -10,4 +10,6 @@ mod first_form;
 #[cfg(test)]
 mod real_files;
 #[cfg(test)]
+mod rule_files;
+#[cfg(test)]
 mod starved;

@@ -48,3 +48,9 @@ returns-clause-read_fault g c = λ is. (headline.read_fault c.args.words.now _ _
 
 pub returns-clause-read_fault_put : goal.returns-clause-read_fault_put
 returns-clause-read_fault_put g c = λ is. (headline.read_fault c.args.words.now _ _ c.go.result c.go.ensures is).1
+
+pub returns-clause-bad_rules : goal.returns-clause-bad_rules
+returns-clause-bad_rules g c = headline.bad_rules c.args.words.now _ _ c.go.result c.go.ensures
+
+pub returns-clause-too_large : goal.returns-clause-too_large
+returns-clause-too_large g c = headline.too_large c.args.words.now _ _ c.go.result c.go.ensures
