@@ -9,7 +9,7 @@ use std::process::Abort;
 
 impl<'a, R: Abort + AllocGlobal> Trees<'a, R> {
     /// `int a`, or `int a = 1`.
-    pub fn var(&self, init: Option<(Tok, Init)>) -> Var {
+    pub(crate) fn var(&self, init: Option<(Tok, Init)>) -> Var {
         Var {
             id: self.tok("a"),
             dims: self.no_dims(),
@@ -17,15 +17,15 @@ impl<'a, R: Abort + AllocGlobal> Trees<'a, R> {
         }
     }
 
-    pub fn begins(&self) -> Option<(Tok, Init)> {
+    pub(crate) fn begins(&self) -> Option<(Tok, Init)> {
         Some((self.tok("="), Init::Value(self.lit())))
     }
 
-    pub fn int(&self) -> TypeUse {
+    pub(crate) fn int(&self) -> TypeUse {
         self.prim(self.no_dims())
     }
 
-    pub fn member_field(&self, mods: List<Mod>, init: Option<(Tok, Init)>) -> Box<Member> {
+    pub(crate) fn member_field(&self, mods: List<Mod>, init: Option<(Tok, Init)>) -> Box<Member> {
         self.boxed(Member::Field {
             mods,
             sort: self.int(),
@@ -34,7 +34,7 @@ impl<'a, R: Abort + AllocGlobal> Trees<'a, R> {
         })
     }
 
-    pub fn no_params(&self) -> Params {
+    pub(crate) fn no_params(&self) -> Params {
         Params {
             left: self.tok("("),
             list: None,
@@ -43,7 +43,7 @@ impl<'a, R: Abort + AllocGlobal> Trees<'a, R> {
     }
 
     /// One parameter with these modifiers.
-    pub fn params(&self, mods: List<Mod>) -> Params {
+    pub(crate) fn params(&self, mods: List<Mod>) -> Params {
         let param = Param {
             mods,
             sort: self.int(),
@@ -57,7 +57,7 @@ impl<'a, R: Abort + AllocGlobal> Trees<'a, R> {
         }
     }
 
-    pub fn method(&self, mods: List<Mod>, params: Params, body: Body) -> Box<Member> {
+    pub(crate) fn method(&self, mods: List<Mod>, params: Params, body: Body) -> Box<Member> {
         self.boxed(Member::Method {
             mods,
             result: Ret::Void(self.tok("void")),
@@ -68,15 +68,15 @@ impl<'a, R: Abort + AllocGlobal> Trees<'a, R> {
         })
     }
 
-    pub fn semi(&self) -> Body {
+    pub(crate) fn semi(&self) -> Body {
         Body::Semi(self.tok(";"))
     }
 
-    pub fn braces(&self) -> Body {
+    pub(crate) fn braces(&self) -> Body {
         Body::Block(self.block())
     }
 
-    pub fn ctor(&self, mods: List<Mod>) -> Box<Member> {
+    pub(crate) fn ctor(&self, mods: List<Mod>) -> Box<Member> {
         self.boxed(Member::Ctor {
             mods,
             id: self.tok("C"),
@@ -90,23 +90,28 @@ impl<'a, R: Abort + AllocGlobal> Trees<'a, R> {
     }
 
     /// `static {}`
-    pub fn initializer(&self) -> Box<Member> {
+    pub(crate) fn initializer(&self) -> Box<Member> {
         self.boxed(Member::Init {
             word: Some(self.tok("static")),
             body: self.block(),
         })
     }
 
-    pub fn stray(&self) -> Box<Member> {
+    pub(crate) fn stray(&self) -> Box<Member> {
         self.boxed(Member::Semi(self.tok(";")))
     }
 
     /// A class or an interface with one member.
-    pub fn decl(&self, word: &str, member: Box<Member>) -> Box<TypeDecl> {
+    pub(crate) fn decl(&self, word: &str, member: Box<Member>) -> Box<TypeDecl> {
         self.decl_with(self.none(), word, member)
     }
 
-    pub fn decl_with(&self, mods: List<Mod>, word: &str, member: Box<Member>) -> Box<TypeDecl> {
+    pub(crate) fn decl_with(
+        &self,
+        mods: List<Mod>,
+        word: &str,
+        member: Box<Member>,
+    ) -> Box<TypeDecl> {
         self.boxed(TypeDecl {
             mods,
             word: self.tok(word),
@@ -120,7 +125,7 @@ impl<'a, R: Abort + AllocGlobal> Trees<'a, R> {
     }
 
     /// A file with one import of one identifier, on demand or not.
-    pub fn unit(&self, star: Option<(Tok, Tok)>) -> Box<Unit> {
+    pub(crate) fn unit(&self, star: Option<(Tok, Tok)>) -> Box<Unit> {
         let import = Import {
             word: self.tok("import"),
             name: self.id("p"),

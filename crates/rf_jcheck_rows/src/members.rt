@@ -2,22 +2,30 @@
 
 use crate::trees::Trees;
 use rf_jcheck::member_fits;
-use std::test::Fail;
+use rf_jtree::Member;
+use std::mem::forget;
 
-#[test]
-fn parameters_have_final_and_annotations_alone(rt: HostRuntime) -> Result<(), Fail> {
-    let t = Trees { rt: &rt };
-    let params = t.params(t.two(t.word("final"), t.mark(None)));
-    assert!(rt; member_fits(&t.method(t.none(), params, t.braces())));
-    let params = t.params(t.one(t.word("static")));
-    assert!(rt; !member_fits(&t.method(t.none(), params, t.braces())));
-    Ok(())
+fn fits(member: Box<Member>) -> bool {
+    let fits = member_fits(&*member);
+    forget(member);
+    fits
 }
 
 #[test]
-fn constructors_have_an_access_word_and_annotations_alone(rt: HostRuntime) -> Result<(), Fail> {
+fn parameters_have_final_and_annotations_alone(rt: HostRuntime) {
     let t = Trees { rt: &rt };
-    assert!(rt; member_fits(&t.ctor(t.two(t.word("private"), t.mark(None)))));
-    assert!(rt; !member_fits(&t.ctor(t.one(t.word("final")))));
-    Ok(())
+    let right = fits(t.method(
+        t.none(),
+        t.params(t.two(t.word("final"), t.mark(None))),
+        t.braces(),
+    )) && !fits(t.method(t.none(), t.params(t.one(t.word("static"))), t.braces()));
+    assert!(rt; right);
+}
+
+#[test]
+fn constructors_have_an_access_word_and_annotations_alone(rt: HostRuntime) {
+    let t = Trees { rt: &rt };
+    let right = fits(t.ctor(t.two(t.word("private"), t.mark(None))))
+        && !fits(t.ctor(t.one(t.word("final"))));
+    assert!(rt; right);
 }

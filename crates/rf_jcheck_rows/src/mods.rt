@@ -2,17 +2,24 @@
 
 use crate::trees::Trees;
 use rf_jcheck::mods_fit;
-use std::test::Fail;
+use rf_jtree::Mod;
+use rf_text::List;
+use std::mem::forget;
+
+fn fit(mods: List<Mod>) -> bool {
+    let fit = mods_fit(&mods);
+    forget(mods);
+    fit
+}
 
 #[test]
-fn no_modifier_stands_twice_and_one_access_word_at_most(rt: HostRuntime) -> Result<(), Fail> {
+fn no_modifier_stands_twice_and_one_access_word_at_most(rt: HostRuntime) {
     let t = Trees { rt: &rt };
-    assert!(rt; mods_fit(&t.two(t.word("public"), t.word("static"))));
-    assert!(rt; !mods_fit(&t.two(t.word("static"), t.word("static"))));
-    assert!(rt; !mods_fit(&t.two(t.word("public"), t.word("private"))));
-    assert!(rt; !mods_fit(&t.one(t.word("int"))));
-    let parens = Some((t.tok("("), t.tok(")")));
-    assert!(rt; !mods_fit(&t.two(t.mark(None), t.mark(parens))));
-    assert!(rt; mods_fit(&t.two(t.mark(None), t.word("final"))));
-    Ok(())
+    let right = fit(t.two(t.word("public"), t.word("static")))
+        && !fit(t.two(t.word("static"), t.word("static")))
+        && !fit(t.two(t.word("public"), t.word("private")))
+        && !fit(t.one(t.word("int")))
+        && !fit(t.two(t.mark(None), t.mark(Some((t.tok("("), t.tok(")"))))))
+        && fit(t.two(t.mark(None), t.word("final")));
+    assert!(rt; right);
 }

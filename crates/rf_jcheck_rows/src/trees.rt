@@ -1,68 +1,48 @@
-//! Trees made by hand, for the tests: `t.binary(t.name("a"), "+", t.name("b"))`.
+//! Trees made by hand, for the tests: `t.binary(t.name("a"), "+", t.name("b"))`. No tree is let go: that is proved anew in
+//! each crate that does it, form by form, and the tests end soon.
 
 use rf_jtree::{
     Args, Block, Braces, Dims, Dotted, Expr, ForFirst, ForHead, Head, Local, Many, Mod, Name, Stmt,
-    Tok, TokKind, TypeBase, TypeUse, Var, keyword, operator,
+    Tok, TypeBase, TypeUse, Var,
 };
-use rf_text::{Bytes, List};
+use rf_jwords::token;
+use rf_text::List;
 use std::process::Abort;
 
 /// Makes trees of words and of the trees of their parts. Want of memory ends the test.
 #[derive(Clone, Copy)]
 pub(crate) struct Trees<'a, R> {
-    pub rt: &'a R,
-}
-
-fn literal_kind(text: &[u8]) -> TokKind {
-    match text {
-        b"null" => TokKind::Null,
-        [b'"', ..] => TokKind::Str,
-        [b'0'..=b'9', ..] => TokKind::Int,
-        _ => TokKind::Ident,
-    }
-}
-
-fn kind(text: &[u8]) -> TokKind {
-    if let Some(op) = operator(text) {
-        return TokKind::Op(op);
-    }
-    match keyword(text) {
-        Some(word) => TokKind::Key(word),
-        None => literal_kind(text),
-    }
+    pub(crate) rt: &'a R,
 }
 
 impl<'a, R: Abort + AllocGlobal> Trees<'a, R> {
     /// A token of this text's kind.
-    pub fn tok(&self, text: &str) -> Tok {
-        Tok {
-            kind: kind(text.as_bytes()),
-            lead: Bytes::new(self.rt.alloc()),
-            text: Bytes::from_slice(self.rt.alloc(), text.as_bytes()).expect(self.rt, "memory"),
-        }
+    pub(crate) fn tok(&self, text: &str) -> Tok {
+        token(self.rt.alloc(), text.as_bytes()).expect(self.rt, "memory")
     }
 
-    pub fn boxed<T: Drop>(&self, tree: T) -> Box<T> {
+    pub(crate) fn boxed<T>(&self, tree: T) -> Box<T> {
         Box::new(self.rt.alloc(), tree).expect(self.rt, "memory")
     }
 
-    pub fn none<T>(&self) -> List<T> {
+    pub(crate) fn none<T>(&self) -> List<T> {
         List::new(self.rt.alloc())
     }
 
-    pub fn one<T: Drop>(&self, item: T) -> List<T> {
-        let mut list = List::new(self.rt.alloc());
-        list.push(item).expect(self.rt, "memory");
-        list
+    pub(crate) fn one<T>(&self, item: T) -> List<T> {
+        let mut items = Vec::new(self.rt.alloc());
+        items.push(item).expect(self.rt, "memory");
+        List::from_vec(items)
     }
 
-    pub fn two<T: Drop>(&self, first: T, second: T) -> List<T> {
-        let mut list = self.one(first);
-        list.push(second).expect(self.rt, "memory");
-        list
+    pub(crate) fn two<T>(&self, first: T, second: T) -> List<T> {
+        let mut items = Vec::new(self.rt.alloc());
+        items.push(first).expect(self.rt, "memory");
+        items.push(second).expect(self.rt, "memory");
+        List::from_vec(items)
     }
 
-    pub fn only<T: Drop>(&self, item: T) -> Many<T> {
+    pub(crate) fn only<T>(&self, item: T) -> Many<T> {
         Many {
             first: self.boxed(item),
             rest: self.none(),
@@ -70,7 +50,7 @@ impl<'a, R: Abort + AllocGlobal> Trees<'a, R> {
     }
 
     /// A name of one identifier.
-    pub fn id(&self, text: &str) -> Name {
+    pub(crate) fn id(&self, text: &str) -> Name {
         Name {
             ids: Dotted {
                 first: self.tok(text),
@@ -79,35 +59,35 @@ impl<'a, R: Abort + AllocGlobal> Trees<'a, R> {
         }
     }
 
-    pub fn no_dims(&self) -> Dims {
+    pub(crate) fn no_dims(&self) -> Dims {
         Dims { list: self.none() }
     }
 
-    pub fn brackets(&self) -> Dims {
+    pub(crate) fn brackets(&self) -> Dims {
         Dims {
             list: self.one((self.tok("["), self.tok("]"))),
         }
     }
 
-    pub fn prim(&self, dims: Dims) -> TypeUse {
+    pub(crate) fn prim(&self, dims: Dims) -> TypeUse {
         TypeUse {
             base: TypeBase::Prim(self.tok("int")),
             dims,
         }
     }
 
-    pub fn named(&self) -> TypeUse {
+    pub(crate) fn named(&self) -> TypeUse {
         TypeUse {
             base: TypeBase::Named(self.id("T")),
             dims: self.no_dims(),
         }
     }
 
-    pub fn word(&self, word: &str) -> Mod {
+    pub(crate) fn word(&self, word: &str) -> Mod {
         Mod::Word(self.tok(word))
     }
 
-    pub fn mark(&self, parens: Option<(Tok, Tok)>) -> Mod {
+    pub(crate) fn mark(&self, parens: Option<(Tok, Tok)>) -> Mod {
         Mod::Mark {
             at: self.tok("@"),
             id: self.tok("Override"),
@@ -115,27 +95,27 @@ impl<'a, R: Abort + AllocGlobal> Trees<'a, R> {
         }
     }
 
-    pub fn name(&self, text: &str) -> Box<Expr> {
+    pub(crate) fn name(&self, text: &str) -> Box<Expr> {
         self.boxed(Expr::Name(self.id(text)))
     }
 
-    pub fn lit(&self) -> Box<Expr> {
+    pub(crate) fn lit(&self) -> Box<Expr> {
         self.boxed(Expr::Lit(self.tok("1")))
     }
 
-    pub fn this(&self) -> Box<Expr> {
+    pub(crate) fn this(&self) -> Box<Expr> {
         self.boxed(Expr::This(self.tok("this")))
     }
 
-    pub fn binary(&self, left: Box<Expr>, op: &str, right: Box<Expr>) -> Box<Expr> {
+    pub(crate) fn binary(&self, left: Box<Expr>, op: &str, right: Box<Expr>) -> Box<Expr> {
         self.boxed(Expr::Binary(left, self.tok(op), right))
     }
 
-    pub fn assign(&self, left: Box<Expr>, value: Box<Expr>) -> Box<Expr> {
+    pub(crate) fn assign(&self, left: Box<Expr>, value: Box<Expr>) -> Box<Expr> {
         self.boxed(Expr::Assign(left, self.tok("="), value))
     }
 
-    pub fn cond(&self, test: Box<Expr>, then: Box<Expr>, other: Box<Expr>) -> Box<Expr> {
+    pub(crate) fn cond(&self, test: Box<Expr>, then: Box<Expr>, other: Box<Expr>) -> Box<Expr> {
         self.boxed(Expr::Cond(
             test,
             self.boxed(self.tok("?")),
@@ -145,15 +125,25 @@ impl<'a, R: Abort + AllocGlobal> Trees<'a, R> {
         ))
     }
 
-    pub fn unary(&self, op: &str, value: Box<Expr>) -> Box<Expr> {
+    /// `a + b`
+    pub(crate) fn sum(&self) -> Box<Expr> {
+        self.binary(self.name("a"), "+", self.name("b"))
+    }
+
+    /// `b ? c : d`
+    pub(crate) fn choice(&self) -> Box<Expr> {
+        self.cond(self.name("b"), self.name("c"), self.name("d"))
+    }
+
+    pub(crate) fn unary(&self, op: &str, value: Box<Expr>) -> Box<Expr> {
         self.boxed(Expr::Unary(self.tok(op), value))
     }
 
-    pub fn postfix(&self, value: Box<Expr>) -> Box<Expr> {
+    pub(crate) fn postfix(&self, value: Box<Expr>) -> Box<Expr> {
         self.boxed(Expr::Postfix(value, self.tok("++")))
     }
 
-    pub fn cast(&self, sort: TypeUse, value: Box<Expr>) -> Box<Expr> {
+    pub(crate) fn cast(&self, sort: TypeUse, value: Box<Expr>) -> Box<Expr> {
         self.boxed(Expr::Cast(
             self.tok("("),
             self.boxed(sort),
@@ -162,11 +152,11 @@ impl<'a, R: Abort + AllocGlobal> Trees<'a, R> {
         ))
     }
 
-    pub fn paren(&self, value: Box<Expr>) -> Box<Expr> {
+    pub(crate) fn paren(&self, value: Box<Expr>) -> Box<Expr> {
         self.boxed(Expr::Paren(self.tok("("), value, self.boxed(self.tok(")"))))
     }
 
-    pub fn args(&self) -> Box<Args> {
+    pub(crate) fn args(&self) -> Box<Args> {
         self.boxed(Args {
             left: self.tok("("),
             list: None,
@@ -174,7 +164,7 @@ impl<'a, R: Abort + AllocGlobal> Trees<'a, R> {
         })
     }
 
-    pub fn call(&self) -> Box<Expr> {
+    pub(crate) fn call(&self) -> Box<Expr> {
         self.boxed(Expr::Call {
             on: None,
             id: self.tok("f"),
@@ -182,16 +172,16 @@ impl<'a, R: Abort + AllocGlobal> Trees<'a, R> {
         })
     }
 
-    pub fn field(&self, value: Box<Expr>) -> Box<Expr> {
+    pub(crate) fn field(&self, value: Box<Expr>) -> Box<Expr> {
         self.boxed(Expr::Field(value, self.boxed(self.tok(".")), self.tok("x")))
     }
 
-    pub fn index(&self, value: Box<Expr>) -> Box<Expr> {
+    pub(crate) fn index(&self, value: Box<Expr>) -> Box<Expr> {
         self.boxed(Expr::Index(value, self.tok("["), self.lit(), self.boxed(self.tok("]"))))
     }
 
     /// `new int[1]`, with these brackets behind it.
-    pub fn new_array(&self, dims: Dims) -> Box<Expr> {
+    pub(crate) fn new_array(&self, dims: Dims) -> Box<Expr> {
         self.boxed(Expr::NewArray {
             word: self.boxed(self.tok("new")),
             base: self.boxed(TypeBase::Prim(self.tok("int"))),
@@ -201,7 +191,7 @@ impl<'a, R: Abort + AllocGlobal> Trees<'a, R> {
     }
 
     /// `new int` with these brackets and `{}`.
-    pub fn new_init(&self, dims: Dims) -> Box<Expr> {
+    pub(crate) fn new_init(&self, dims: Dims) -> Box<Expr> {
         self.boxed(Expr::NewInit {
             word: self.boxed(self.tok("new")),
             base: self.boxed(TypeBase::Prim(self.tok("int"))),
@@ -215,11 +205,11 @@ impl<'a, R: Abort + AllocGlobal> Trees<'a, R> {
         })
     }
 
-    pub fn empty(&self) -> Box<Stmt> {
+    pub(crate) fn empty(&self) -> Box<Stmt> {
         self.boxed(Stmt::Empty(self.tok(";")))
     }
 
-    pub fn run(&self, value: Box<Expr>) -> Box<Stmt> {
+    pub(crate) fn run(&self, value: Box<Expr>) -> Box<Stmt> {
         self.boxed(Stmt::Value(value, self.tok(";")))
     }
 
@@ -233,7 +223,7 @@ impl<'a, R: Abort + AllocGlobal> Trees<'a, R> {
         })
     }
 
-    pub fn if_then(&self, then: Box<Stmt>, other: Option<(Tok, Box<Stmt>)>) -> Box<Stmt> {
+    pub(crate) fn if_then(&self, then: Box<Stmt>, other: Option<(Tok, Box<Stmt>)>) -> Box<Stmt> {
         self.boxed(Stmt::If {
             head: self.head("if"),
             then,
@@ -241,11 +231,16 @@ impl<'a, R: Abort + AllocGlobal> Trees<'a, R> {
         })
     }
 
-    pub fn or_else(&self, other: Box<Stmt>) -> Option<(Tok, Box<Stmt>)> {
+    pub(crate) fn or_else(&self, other: Box<Stmt>) -> Option<(Tok, Box<Stmt>)> {
         Some((self.tok("else"), other))
     }
 
-    pub fn while_do(&self, body: Box<Stmt>) -> Box<Stmt> {
+    /// `if (a) ;`
+    pub(crate) fn open_if(&self) -> Box<Stmt> {
+        self.if_then(self.empty(), None)
+    }
+
+    pub(crate) fn while_do(&self, body: Box<Stmt>) -> Box<Stmt> {
         self.boxed(Stmt::While {
             head: self.head("while"),
             body,
@@ -253,7 +248,7 @@ impl<'a, R: Abort + AllocGlobal> Trees<'a, R> {
     }
 
     /// `for (first; a; last) ;`
-    pub fn for_with(&self, first: ForFirst, last: Option<Many<Expr>>) -> Box<Stmt> {
+    pub(crate) fn for_with(&self, first: ForFirst, last: Option<Many<Expr>>) -> Box<Stmt> {
         let head = ForHead {
             word: self.tok("for"),
             left: self.tok("("),
@@ -270,7 +265,7 @@ impl<'a, R: Abort + AllocGlobal> Trees<'a, R> {
         })
     }
 
-    pub fn one_expr(&self, expr: Box<Expr>) -> Option<Many<Expr>> {
+    pub(crate) fn one_expr(&self, expr: Box<Expr>) -> Option<Many<Expr>> {
         Some(Many {
             first: expr,
             rest: self.none(),
@@ -278,7 +273,7 @@ impl<'a, R: Abort + AllocGlobal> Trees<'a, R> {
     }
 
     /// `int a;` with these modifiers.
-    pub fn local(&self, mods: List<Mod>) -> Box<Stmt> {
+    pub(crate) fn local(&self, mods: List<Mod>) -> Box<Stmt> {
         let var = Var {
             id: self.tok("a"),
             dims: self.no_dims(),
@@ -292,7 +287,7 @@ impl<'a, R: Abort + AllocGlobal> Trees<'a, R> {
         self.boxed(Stmt::Local(self.boxed(local), self.tok(";")))
     }
 
-    pub fn block(&self) -> Block {
+    pub(crate) fn block(&self) -> Block {
         Block {
             left: self.tok("{"),
             list: self.none(),
@@ -300,7 +295,12 @@ impl<'a, R: Abort + AllocGlobal> Trees<'a, R> {
         }
     }
 
-    pub fn try_with(&self, last: Option<(Tok, Box<Block>)>) -> Box<Stmt> {
+    /// `finally {}`
+    pub(crate) fn last(&self) -> Option<(Tok, Box<Block>)> {
+        Some((self.tok("finally"), self.boxed(self.block())))
+    }
+
+    pub(crate) fn try_with(&self, last: Option<(Tok, Box<Block>)>) -> Box<Stmt> {
         self.boxed(Stmt::Try {
             word: self.tok("try"),
             body: self.boxed(self.block()),

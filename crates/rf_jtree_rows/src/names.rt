@@ -3,29 +3,30 @@
 use rf_jtree::{TokKind, is_identifier, is_word, keyword, operator};
 use std::test::Fail;
 
+/// Texts, and whether each is a word and an identifier.
+const NAMES: &[(&[u8], bool, bool)] = &[
+    (b"a", true, true),
+    (b"$", true, true),
+    (b"_", true, true),
+    (b"x1", true, true),
+    (b"\xc3\xa9t\xc3\xa9", true, true),
+    (b"var", true, true),
+    (b"Public", true, true),
+    (b"publics", true, true),
+    (b"public", true, false),
+    (b"goto", true, false),
+    (b"true", true, false),
+    (b"null", true, false),
+    (b"", false, false),
+    (b"1x", false, false),
+    (b"a b", false, false),
+    (b"a\xc3", false, false),
+];
+
 #[test]
 fn a_new_name_is_an_identifier(rt: HostRuntime) -> Result<(), Fail> {
-    let cases: [(&[u8], bool, bool); 16] = [
-        (b"a", true, true),
-        (b"$", true, true),
-        (b"_", true, true),
-        (b"x1", true, true),
-        (b"\xc3\xa9t\xc3\xa9", true, true),
-        (b"var", true, true),
-        (b"Public", true, true),
-        (b"publics", true, true),
-        (b"public", true, false),
-        (b"goto", true, false),
-        (b"true", true, false),
-        (b"null", true, false),
-        (b"", false, false),
-        (b"1x", false, false),
-        (b"a b", false, false),
-        (b"a\xc3", false, false),
-    ];
-    for (text, word, identifier) in cases {
-        assert_eq!(rt; is_word(text), word);
-        assert_eq!(rt; is_identifier(text), identifier);
+    for (text, word, identifier) in NAMES {
+        assert!(rt; is_word(text) == *word && is_identifier(text) == *identifier);
     }
     Ok(())
 }
@@ -35,7 +36,10 @@ fn kind_of(text: &[u8]) -> TokKind {
     if let Some(op) = operator(text) {
         return TokKind::Op(op);
     }
-    keyword(text).map_or(TokKind::Ident, TokKind::Key)
+    match keyword(text) {
+        Some(word) => TokKind::Key(word),
+        None => TokKind::Ident,
+    }
 }
 
 #[test]

@@ -22,39 +22,64 @@ fn less_or_two(alloc: Global) -> Result<Form, Memory> {
     Ok(Form::Any(pair(alloc, less, Form::Eq(Term::Var(0), Term::Const(2)))?))
 }
 
+fn with_constant(alloc: Global, form: Form, constant: Form) -> Result<Form, Memory> {
+    Ok(Form::All(pair(alloc, form, constant)?))
+}
+
+/// The form beside what is true.
+fn beside_true(alloc: Global) -> Result<Form, Memory> {
+    with_constant(alloc, less_or_two(alloc)?, Form::True)
+}
+
+/// The same beside what is false.
+fn beside_false(alloc: Global) -> Result<Form, Memory> {
+    with_constant(alloc, beside_true(alloc)?, Form::False)
+}
+
+fn has_value(form: Result<Form, Memory>, values: &List<u32>, want: bool) -> bool {
+    match form {
+        Ok(form) => eval(&form, values) == want,
+        Err(_) => false,
+    }
+}
+
+/// Whether the form has this value at these two values, and also beside what is true, and is false beside what is false.
+fn is_true(alloc: Global, x: u32, y: u32, want: bool) -> Result<bool, Memory> {
+    let values = pair(alloc, x, y)?;
+    Ok(
+        has_value(less_or_two(alloc), &values, want)
+            && has_value(beside_true(alloc), &values, want)
+            && has_value(beside_false(alloc), &values, false),
+    )
+}
+
 #[test]
 fn plain_truth_is_that_of_the_values(rt: HostRuntime) -> Result<(), Fail> {
-    let alloc = rt.alloc();
     for x in 0..4u32 {
         for y in 0..4u32 {
-            let values = pair(alloc, x, y)?;
-            assert_eq!(rt; eval(&less_or_two(alloc)?, &values), x < y || x == 2);
-            let both = Form::All(pair(alloc, less_or_two(alloc)?, Form::True)?);
-            assert_eq!(rt; eval(&both, &values), x < y || x == 2);
-            assert!(rt; !eval(&Form::All(pair(alloc, both, Form::False)?), &values));
+            assert!(rt; matches!(is_true(rt.alloc(), x, y, x < y || x == 2), Ok(true)));
         }
     }
     Ok(())
 }
 
+/// 5 twice, and 7 and 0.
+fn doubled(alloc: Global) -> Result<Doms, Memory> {
+    let first = pair(alloc, 5, 5)?;
+    let alive = pair(alloc, first, pair(alloc, 7, 0)?)?;
+    Ok(Doms { alive })
+}
+
 #[test]
 fn domains_are_counted_without_doubles(rt: HostRuntime) -> Result<(), Fail> {
-    let alloc = rt.alloc();
-    let alive = pair(alloc, pair(alloc, 5, 5)?, pair(alloc, 7, 0)?)?;
-    let doms = Doms { alive };
-    assert_eq!(rt; doms.size(0), 1);
-    assert_eq!(rt; doms.size(1), 2);
-    assert_eq!(rt; doms.size(2), 0);
-    assert!(rt; doms.has(1, 0));
-    assert!(rt; !doms.has(0, 0));
+    let doms = doubled(rt.alloc())?;
+    assert!(rt; doms.size(0) == 1 && doms.size(1) == 2 && doms.size(2) == 0);
+    assert!(rt; doms.has(1, 0) && !doms.has(0, 0));
     let here = At {
         dom: &doms,
         x: 1,
         v: 7,
     };
-    assert_eq!(rt; here.size(1), 1);
-    assert!(rt; here.has(1, 7));
-    assert!(rt; !here.has(1, 0));
-    assert!(rt; here.has(0, 5));
+    assert!(rt; here.size(1) == 1 && here.has(1, 7) && !here.has(1, 0) && here.has(0, 5));
     Ok(())
 }
