@@ -7,14 +7,17 @@ use std::test::Fail;
 
 const RULES: &[&str] = &["rules", "r.txt"];
 
-/// Two rules as they are to be written.
+/// Two rules as they are to be written, as the bytes of a file and as the text that is put.
+const FILE: &[u8] =
+    b"rule distinct\nfor p: local, q: local, m: method\nif project(p), param(p, m), param(q, m), before(p, q)\nthen p.name != q.name\nend\nrule moved\nfor p: local, m: method\nif project(p), param(p, m)\nthen p.name != old(p.name)\nend\n";
+
 const PLAIN: &str =
     "rule distinct\nfor p: local, q: local, m: method\nif project(p), param(p, m), param(q, m), before(p, q)\nthen p.name != q.name\nend\nrule moved\nfor p: local, m: method\nif project(p), param(p, m)\nthen p.name != old(p.name)\nend\n";
 
 const PRINTED: Example<'static> = Example {
     name: "a rule file as it is to be written is put again",
     words: RULES,
-    files: &[("", "r.txt", PLAIN.as_bytes())],
+    files: &[("", "r.txt", FILE)],
     failing: &[],
     failing_puts: &[],
     status: 0,
@@ -85,7 +88,7 @@ const ANSWERS: &[Example<'static>] = &[
     Example {
         name: "the built-in rules aren't there yet",
         words: &["rules", "-"],
-        files: &[("", "-", PLAIN.as_bytes())],
+        files: &[("", "-", FILE)],
         status: 12,
         line: "not yet\n",
         ..PRINTED
