@@ -1,0 +1,3 @@
+pub mod Nodes
+pub mod Saying
+pub mod Finding
