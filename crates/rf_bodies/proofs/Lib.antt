@@ -1,3 +1,5 @@
 pub mod Nodes
 pub mod Saying
 pub mod Finding
+pub mod Joining
+pub mod Gathering

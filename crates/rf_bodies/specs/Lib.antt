@@ -1,2 +1,4 @@
 pub mod Bodies
 pub mod Lowered
+pub mod Alike
+pub mod Gathered
