@@ -7,6 +7,5 @@ mod faults;
 mod files;
 #[cfg(test)]
 mod formulas;
+#[cfg(test)]
 mod told;
-
-pub use told::program_told;

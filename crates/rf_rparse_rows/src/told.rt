@@ -154,7 +154,7 @@ fn tell_item(item: &Item, out: &mut Bytes) -> Result<(), Memory> {
 }
 
 /// The items in order, each in square brackets.
-pub fn program_told(alloc: Global, prog: &RuleProg) -> Result<Bytes, Memory> {
+pub(crate) fn program_told(alloc: Global, prog: &RuleProg) -> Result<Bytes, Memory> {
     let mut out = Bytes::new(alloc);
     for item in prog.items.as_slice() {
         tell_item(item, &mut out)?;
