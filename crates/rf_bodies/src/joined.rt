@@ -59,7 +59,8 @@ pub fn negated(alloc: Global, form: Form) -> Result<Form, Memory>
 /// The formula that is true where both are.
 #[tactic(auto, using(crate::proofs::Joining::all_left_true, crate::proofs::Joining::all_right_true, crate::proofs::Joining::all_left_false, crate::proofs::Joining::all_right_false, crate::proofs::Joining::all_open))]
 pub fn both_of(alloc: Global, left: Form, right: Form) -> Result<Form, Memory>
-    ensures { IfOk result (λ made. Alike (form_of made) (AllOf (both (form_of left) (form_of right)))) }
+    ensures { IfOk result
+        (λ made. Alike (form_of made) (AllOf (both (form_of left) (form_of right)))) }
 {
     if is_true(&left) {
         return Ok(right);
@@ -80,7 +81,8 @@ pub fn both_of(alloc: Global, left: Form, right: Form) -> Result<Form, Memory>
 /// The formula that is true where one of both is.
 #[tactic(auto, using(crate::proofs::Joining::any_left_true, crate::proofs::Joining::any_right_true, crate::proofs::Joining::any_left_false, crate::proofs::Joining::any_right_false, crate::proofs::Joining::any_open))]
 pub fn either_of(alloc: Global, left: Form, right: Form) -> Result<Form, Memory>
-    ensures { IfOk result (λ made. Alike (form_of made) (AnyOf (both (form_of left) (form_of right)))) }
+    ensures { IfOk result
+        (λ made. Alike (form_of made) (AnyOf (both (form_of left) (form_of right)))) }
 {
     if is_false(&left) {
         return Ok(right);

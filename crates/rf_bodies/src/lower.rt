@@ -42,7 +42,8 @@ fn lower_quant(
     names: &[Bytes],
     quant: &Quant,
 ) -> Result<Many, Memory>
-    ensures { IfOk result (λ many. SaysMany lang.now table.now derived.now names.now quant.now many) }
+    ensures { IfOk result
+        (λ many. SaysMany lang.now table.now derived.now names.now quant.now many) }
 {
     let all = with_names(alloc, names, quant.vars.as_slice())?;
     let ranges = ranges(alloc, table.counts.as_slice(), quant.vars.as_slice())?;

@@ -11,7 +11,7 @@ use Rattle.rf_cli.specs.declared.status.Status.TheVariants as status
 use Rattle.rf_cli.specs.Acting.{Acts, RunState, WriteEnd}
 use Rattle.rf_cli.specs.Command.{Apply, IsApply}
 use Rattle.rf_cli.specs.Put.{IsPut, Puts, not_yet_line, read_fault_line}
-use Rattle.rf_cli.specs.Reads.{HoldsForm, IsRight}
+use Rattle.rf_cli.specs.Inputs.{HoldsForm, IsRight}
 use Rattle.rf_cli.specs.RunEnd.{ApplyEnd}
 use Rattle.rf_cli.specs.WholeRun.{CountsAreSame, HasInput, HasNoForm, IsChanged, IsExact, IsFault, IsRefused, MayHaveWritten, StandsWhole, TouchesOneFile, status_of}
 use Rattle.rf_cli.proofs.WholeRunLemmas.{Fails, has_answer, held, no_form, no_rules, put_kept, put_line, put_other, put_rose, put_status, same_command}
@@ -43,7 +43,7 @@ module _ (words : List (List ℕ)) (before after : RunState) (result : Status) w
     whole_file bytes report (WriteEnd.failed failed files rose said put) is = absurd (let e : status.WriteFault ≡ status.Ok = sym failed ∙ is in cc)
     whole_file bytes report (WriteEnd.starved want files writes sink) is = absurd (memory_other status.Ok (λ e. cc) want is)
 
-    report_put : (bytes report : List ℕ) → Write bytes report → result ≡ status.Ok → Puts report before.sink.taken after.sink.taken
+    report_put : (bytes report : List ℕ) → Write bytes report → result ≡ status.Ok → Puts report before.sink.received after.sink.received
     report_put bytes report (WriteEnd.written files writes put) is = put_line put (λ e. cc) (λ e. cc) is
     report_put bytes report (WriteEnd.failed failed files rose said put) is = absurd (let e : status.WriteFault ≡ status.Ok = sym failed ∙ is in cc)
     report_put bytes report (WriteEnd.starved want files writes sink) is = absurd (memory_other status.Ok (λ e. cc) want is)
@@ -88,7 +88,7 @@ module _ (words : List (List ℕ)) (before after : RunState) (result : Status) w
     abbrev Did : FirstPath → Type 0
     Did answer = Acts command.out path answer before after result
 
-    changed_of : (files : Files) (answer : FirstPath) → before.files ≡ Some files → IsRight command files path answer → Did answer → result ≡ status.Ok → IsChanged words files after.files before.sink.taken after.sink.taken
+    changed_of : (files : Files) (answer : FirstPath) → before.files ≡ Some files → IsRight command files path answer → Did answer → result ≡ status.Ok → IsChanged words files after.files before.sink.received after.sink.received
     changed_of files NotYet told right did is = absurd (put_other did.puts status.Ok (λ e. cc) (λ e. cc) (λ e. cc) is)
     changed_of files (Refused report) told right did is = absurd (put_other did.puts status.Ok (λ e. cc) (λ e. cc) (λ e. cc) is)
     changed_of files (Changed bytes report) told right did is = record {
@@ -101,7 +101,7 @@ module _ (words : List (List ℕ)) (before after : RunState) (result : Status) w
       line = report_put bytes report did is;
     }
 
-    refused_of : (files : Files) (answer : FirstPath) → IsRight command files path answer → Did answer → result ≡ status.Refused → IsRefused words files before.sink.taken after.sink.taken
+    refused_of : (files : Files) (answer : FirstPath) → IsRight command files path answer → Did answer → result ≡ status.Refused → IsRefused words files before.sink.received after.sink.received
     refused_of files NotYet right did is = absurd (put_other did.puts status.Refused (λ e. cc) (λ e. cc) (λ e. cc) is)
     refused_of files (Changed bytes report) right did is = absurd (write_other bytes report did status.Refused (λ e. cc) (λ e. cc) (λ e. cc) is)
     refused_of files (Refused report) right did is = record {
@@ -117,7 +117,7 @@ module _ (words : List (List ℕ)) (before after : RunState) (result : Status) w
     not_yet_of files (Refused report) right did is = absurd (put_other did.puts status.NotYet (λ e. cc) (λ e. cc) (λ e. cc) is)
     not_yet_of files (Changed bytes report) right did is = absurd (write_other bytes report did status.NotYet (λ e. cc) (λ e. cc) (λ e. cc) is)
 
-    not_yet_line_of : (answer : FirstPath) → Did answer → result ≡ status.NotYet → Puts not_yet_line before.sink.taken after.sink.taken
+    not_yet_line_of : (answer : FirstPath) → Did answer → result ≡ status.NotYet → Puts not_yet_line before.sink.received after.sink.received
     not_yet_line_of NotYet did is = put_line did.puts (λ e. cc) (λ e. cc) is
     not_yet_line_of (Refused report) did is = absurd (put_other did.puts status.NotYet (λ e. cc) (λ e. cc) (λ e. cc) is)
     not_yet_line_of (Changed bytes report) did is = absurd (write_other bytes report did status.NotYet (λ e. cc) (λ e. cc) (λ e. cc) is)
@@ -232,18 +232,18 @@ module _ (words : List (List ℕ)) (before after : RunState) (result : Status) w
     no_other other r o d n w m (ApplyEnd.starved want reads stays sink) is = memory_other other m want is
     no_other other r o d n w m (ApplyEnd.said path answer right reads did) is = did_other command path is_apply answer did other (answer_is_not other o d n) w m is
 
-    pub apply_ok : ApplyEnd command before after result → result ≡ status.Ok → IfSome before.files (λ files. IsChanged words files after.files before.sink.taken after.sink.taken)
+    pub apply_ok : ApplyEnd command before after result → result ≡ status.Ok → IfSome before.files (λ files. IsChanged words files after.files before.sink.received after.sink.received)
     apply_ok (ApplyEnd.read_fault rose never only) is = absurd (put_other only.puts status.Ok (λ e. cc) (λ e. cc) (λ e. cc) is)
     apply_ok (ApplyEnd.starved want reads stays sink) is = absurd (memory_other status.Ok (λ e. cc) want is)
     apply_ok (ApplyEnd.said path answer right reads did) is =
-        on_told before.files (λ files. IsRight command files path answer) (λ files. IsChanged words files after.files before.sink.taken after.sink.taken) right
+        on_told before.files (λ files. IsRight command files path answer) (λ files. IsChanged words files after.files before.sink.received after.sink.received) right
         (λ files told its. changed_of command path is_apply files answer told its did is)
 
-    pub apply_refused : ApplyEnd command before after result → result ≡ status.Refused → IfSome before.files (λ files. IsRefused words files before.sink.taken after.sink.taken)
+    pub apply_refused : ApplyEnd command before after result → result ≡ status.Refused → IfSome before.files (λ files. IsRefused words files before.sink.received after.sink.received)
     apply_refused (ApplyEnd.read_fault rose never only) is = absurd (put_other only.puts status.Refused (λ e. cc) (λ e. cc) (λ e. cc) is)
     apply_refused (ApplyEnd.starved want reads stays sink) is = absurd (memory_other status.Refused (λ e. cc) want is)
     apply_refused (ApplyEnd.said path answer right reads did) is =
-        on_told before.files (λ files. IsRight command files path answer) (λ files. IsRefused words files before.sink.taken after.sink.taken) right
+        on_told before.files (λ files. IsRight command files path answer) (λ files. IsRefused words files before.sink.received after.sink.received) right
         (λ files told its. refused_of command path is_apply files answer its did is)
 
     pub apply_not_yet : ApplyEnd command before after result → result ≡ status.NotYet → IfSome before.files (HasNoForm words)
@@ -253,12 +253,12 @@ module _ (words : List (List ℕ)) (before after : RunState) (result : Status) w
         on_told before.files (λ files. IsRight command files path answer) (HasNoForm words) right
         (λ files told its. not_yet_of command path is_apply files answer its did is)
 
-    pub apply_not_yet_put : ApplyEnd command before after result → result ≡ status.NotYet → Puts not_yet_line before.sink.taken after.sink.taken
+    pub apply_not_yet_put : ApplyEnd command before after result → result ≡ status.NotYet → Puts not_yet_line before.sink.received after.sink.received
     apply_not_yet_put (ApplyEnd.read_fault rose never only) is = absurd (put_other only.puts status.NotYet (λ e. cc) (λ e. cc) (λ e. cc) is)
     apply_not_yet_put (ApplyEnd.starved want reads stays sink) is = absurd (memory_other status.NotYet (λ e. cc) want is)
     apply_not_yet_put (ApplyEnd.said path answer right reads did) is = not_yet_line_of command path is_apply answer did is
 
-    pub apply_read_fault : ApplyEnd command before after result → result ≡ status.ReadFault → Rose before.reads after.reads × Puts read_fault_line before.sink.taken after.sink.taken
+    pub apply_read_fault : ApplyEnd command before after result → result ≡ status.ReadFault → Rose before.reads after.reads × Puts read_fault_line before.sink.received after.sink.received
     apply_read_fault (ApplyEnd.read_fault rose never only) is = (rose, put_line only.puts (λ e. cc) (λ e. cc) is)
     apply_read_fault (ApplyEnd.starved want reads stays sink) is = absurd (memory_other status.ReadFault (λ e. cc) want is)
     apply_read_fault (ApplyEnd.said path answer right reads did) is =

@@ -18,37 +18,37 @@ module _ (words : List (List ℕ)) (before after : RunState) (result : Status) w
   abbrev End : Type 0
   End = RunEnd words before after result
 
-  pub ok : End → result ≡ status.Ok → IfSome before.files (λ files. IsChanged words files after.files before.sink.taken after.sink.taken ⊎ IsPrinted words files after.files before.sink.taken after.sink.taken)
+  pub ok : End → result ≡ status.Ok → IfSome before.files (λ files. IsChanged words files after.files before.sink.received after.sink.received ⊎ IsPrinted words files after.files before.sink.received after.sink.received)
   ok (RunEnd.bad_words bad reads only) is = absurd (put_other only.puts status.Ok (λ e. cc) (λ e. cc) (λ e. cc) is)
   ok (RunEnd.applied command is_apply end) is =
-      on_told before.files (λ files. IsChanged words files after.files before.sink.taken after.sink.taken)
-      (λ files. IsChanged words files after.files before.sink.taken after.sink.taken ⊎ IsPrinted words files after.files before.sink.taken after.sink.taken)
+      on_told before.files (λ files. IsChanged words files after.files before.sink.received after.sink.received)
+      (λ files. IsChanged words files after.files before.sink.received after.sink.received ⊎ IsPrinted words files after.files before.sink.received after.sink.received)
       (apply.apply_ok words before after result command is_apply end is) (λ files told its. inl its)
   ok (RunEnd.ruled file is_rules end) is =
-      on_told before.files (λ files. IsPrinted words files after.files before.sink.taken after.sink.taken)
-      (λ files. IsChanged words files after.files before.sink.taken after.sink.taken ⊎ IsPrinted words files after.files before.sink.taken after.sink.taken)
+      on_told before.files (λ files. IsPrinted words files after.files before.sink.received after.sink.received)
+      (λ files. IsChanged words files after.files before.sink.received after.sink.received ⊎ IsPrinted words files after.files before.sink.received after.sink.received)
       (rules.rules_ok words before after result file is_rules end is) (λ files told its. inr its)
 
-  pub refused : End → result ≡ status.Refused → IfSome before.files (λ files. IsRefused words files before.sink.taken after.sink.taken)
+  pub refused : End → result ≡ status.Refused → IfSome before.files (λ files. IsRefused words files before.sink.received after.sink.received)
   refused (RunEnd.bad_words bad reads only) is = absurd (put_other only.puts status.Refused (λ e. cc) (λ e. cc) (λ e. cc) is)
   refused (RunEnd.applied command is_apply end) is = apply.apply_refused words before after result command is_apply end is
   refused (RunEnd.ruled file is_rules end) is =
       absurd (rules.no_other words before after result file is_rules status.Refused (λ e. cc) (λ e. cc) (λ e. cc) (λ e. cc) (λ e. cc) (λ e. cc) (λ e. cc) end is)
 
-  pub bad_words : End → result ≡ status.BadWords → AreBadWords words × Puts bad_words_line before.sink.taken after.sink.taken
+  pub bad_words : End → result ≡ status.BadWords → AreBadWords words × Puts bad_words_line before.sink.received after.sink.received
   bad_words (RunEnd.bad_words bad reads only) is = (bad, put_line only.puts (λ e. cc) (λ e. cc) is)
   bad_words (RunEnd.applied command is_apply end) is =
       absurd (apply.no_other words before after result command is_apply status.BadWords (λ e. cc) (λ e. cc) (λ e. cc) (λ e. cc) (λ e. cc) (λ e. cc) end is)
   bad_words (RunEnd.ruled file is_rules end) is =
       absurd (rules.no_other words before after result file is_rules status.BadWords (λ e. cc) (λ e. cc) (λ e. cc) (λ e. cc) (λ e. cc) (λ e. cc) (λ e. cc) end is)
 
-  pub bad_rules : End → result ≡ status.BadRules → IfSome before.files (λ files. IsBadRules words files before.sink.taken after.sink.taken)
+  pub bad_rules : End → result ≡ status.BadRules → IfSome before.files (λ files. IsBadRules words files before.sink.received after.sink.received)
   bad_rules (RunEnd.bad_words bad reads only) is = absurd (put_other only.puts status.BadRules (λ e. cc) (λ e. cc) (λ e. cc) is)
   bad_rules (RunEnd.applied command is_apply end) is =
       absurd (apply.no_other words before after result command is_apply status.BadRules (λ e. cc) (λ e. cc) (λ e. cc) (λ e. cc) (λ e. cc) (λ e. cc) end is)
   bad_rules (RunEnd.ruled file is_rules end) is = rules.rules_bad words before after result file is_rules end is
 
-  pub too_large : End → result ≡ status.TooLarge → IfSome before.files (λ files. IsTooLarge words files before.sink.taken after.sink.taken)
+  pub too_large : End → result ≡ status.TooLarge → IfSome before.files (λ files. IsTooLarge words files before.sink.received after.sink.received)
   too_large (RunEnd.bad_words bad reads only) is = absurd (put_other only.puts status.TooLarge (λ e. cc) (λ e. cc) (λ e. cc) is)
   too_large (RunEnd.applied command is_apply end) is =
       absurd (apply.no_other words before after result command is_apply status.TooLarge (λ e. cc) (λ e. cc) (λ e. cc) (λ e. cc) (λ e. cc) (λ e. cc) end is)
@@ -62,12 +62,12 @@ module _ (words : List (List ℕ)) (before after : RunState) (result : Status) w
   not_yet (RunEnd.ruled file is_rules end) is =
       if_told before.files (λ files. HasNoForm words files ⊎ IsRules words built_in) (λ files told. inr (rules.rules_not_yet words before after result file is_rules end is).0)
 
-  pub not_yet_put : End → result ≡ status.NotYet → Puts not_yet_line before.sink.taken after.sink.taken
+  pub not_yet_put : End → result ≡ status.NotYet → Puts not_yet_line before.sink.received after.sink.received
   not_yet_put (RunEnd.bad_words bad reads only) is = absurd (put_other only.puts status.NotYet (λ e. cc) (λ e. cc) (λ e. cc) is)
   not_yet_put (RunEnd.applied command is_apply end) is = apply.apply_not_yet_put words before after result command is_apply end is
   not_yet_put (RunEnd.ruled file is_rules end) is = (rules.rules_not_yet words before after result file is_rules end is).1
 
-  pub read_fault : End → result ≡ status.ReadFault → Rose before.reads after.reads × Puts read_fault_line before.sink.taken after.sink.taken
+  pub read_fault : End → result ≡ status.ReadFault → Rose before.reads after.reads × Puts read_fault_line before.sink.received after.sink.received
   read_fault (RunEnd.bad_words bad reads only) is = absurd (put_other only.puts status.ReadFault (λ e. cc) (λ e. cc) (λ e. cc) is)
   read_fault (RunEnd.applied command is_apply end) is = apply.apply_read_fault words before after result command is_apply end is
   read_fault (RunEnd.ruled file is_rules end) is = rules.rules_read_fault words before after result file is_rules end is

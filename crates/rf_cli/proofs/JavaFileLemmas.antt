@@ -11,7 +11,7 @@ use Rattle.std.proofs.lemmas.Slice.Eq.{bytes_eq-Decides}
 use Rattle.std.proofs.lemmas.List.{take-append-drop}
 use Rattle.rf_jtree.specs.JavaPath.{is_java_path}
 use Rattle.rf_world.specs.World.{Files, AreDistinct, IsListing}
-use Rattle.rf_cli.specs.Reads.{IsOnlyJava}
+use Rattle.rf_cli.specs.Inputs.{IsOnlyJava}
 
 module _ {X : Type 0} (p : X → Bool) where
   passes_first : (x : X) (xs : List X) → p x ≡ true → filter p (x ∷ xs) ≡ x ∷ filter p xs

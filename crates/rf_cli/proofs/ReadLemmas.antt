@@ -9,7 +9,7 @@ use Rattle.rf_engine.specs.declared.first_form.FirstPath.TheVariants.{NotYet}
 use Rattle.rf_engine.specs.FirstForm.{IsForm, IsAnswer}
 use Rattle.rf_cli.specs.Command.{Apply, no_library}
 use Rattle.rf_cli.specs.Listing.{IsOrdered}
-use Rattle.rf_cli.specs.Reads.{IsOnlyJava, IsRight}
+use Rattle.rf_cli.specs.Inputs.{IsOnlyJava, IsRight}
 use Rattle.rf_cli.proofs.JavaFileLemmas.{lists_only, only_listed}
 
 first_same : {X : Type 0} {x y : X} → x ∷ [] ≡ y ∷ [] → x ≡ y

@@ -31,16 +31,16 @@ module _ (words : List (List ℕ)) (before after : RunState) (result : Status) (
   no_other other n r o b t w m (RulesEnd.starved want reads stays sink) is = m (sym want ∙ is)
   no_other other n r o b t w m (RulesEnd.answered given answer right reads only) is = put_other only.puts other (status_is_not other o b t answer) w m is
 
-  said_is : (files : Files) (answer : RulesAnswer) → file ≢ built_in → IsRulesRight file files answer → Puts (rules_text answer) before.sink.taken after.sink.taken
-      → IsRulesSaid words files answer before.sink.taken after.sink.taken
+  said_is : (files : Files) (answer : RulesAnswer) → file ≢ built_in → IsRulesRight file files answer → Puts (rules_text answer) before.sink.received after.sink.received
+      → IsRulesSaid words files answer before.sink.received after.sink.received
   said_is files answer given right line = record { file = file; is_rules = is_rules; given = given; right = right; line = line }
 
-  pub rules_ok : End → result ≡ status.Ok → IfSome before.files (λ files. IsPrinted words files after.files before.sink.taken after.sink.taken)
+  pub rules_ok : End → result ≡ status.Ok → IfSome before.files (λ files. IsPrinted words files after.files before.sink.received after.sink.received)
   rules_ok (RulesEnd.not_yet at reads only) is = absurd (put_other only.puts status.Ok (λ e. cc) (λ e. cc) (λ e. cc) is)
   rules_ok (RulesEnd.read_fault given rose never only) is = absurd (put_other only.puts status.Ok (λ e. cc) (λ e. cc) (λ e. cc) is)
   rules_ok (RulesEnd.starved want reads stays sink) is = absurd (let e : status.Memory ≡ status.Ok = sym want ∙ is in cc)
   rules_ok (RulesEnd.answered given (Printed text) right reads only) is =
-      on_told before.files (λ files. IsRulesRight file files (Printed text)) (λ files. IsPrinted words files after.files before.sink.taken after.sink.taken) right
+      on_told before.files (λ files. IsRulesRight file files (Printed text)) (λ files. IsPrinted words files after.files before.sink.received after.sink.received) right
       (λ files told its. record {
         text = text;
         said = said_is files (Printed text) given its (put_line only.puts (λ e. cc) (λ e. cc) is);
@@ -49,34 +49,34 @@ module _ (words : List (List ℕ)) (before after : RunState) (result : Status) (
   rules_ok (RulesEnd.answered given (Bad line) right reads only) is = absurd (put_other only.puts status.Ok (λ e. cc) (λ e. cc) (λ e. cc) is)
   rules_ok (RulesEnd.answered given (TooLarge line) right reads only) is = absurd (put_other only.puts status.Ok (λ e. cc) (λ e. cc) (λ e. cc) is)
 
-  pub rules_bad : End → result ≡ status.BadRules → IfSome before.files (λ files. IsBadRules words files before.sink.taken after.sink.taken)
+  pub rules_bad : End → result ≡ status.BadRules → IfSome before.files (λ files. IsBadRules words files before.sink.received after.sink.received)
   rules_bad (RulesEnd.not_yet at reads only) is = absurd (put_other only.puts status.BadRules (λ e. cc) (λ e. cc) (λ e. cc) is)
   rules_bad (RulesEnd.read_fault given rose never only) is = absurd (put_other only.puts status.BadRules (λ e. cc) (λ e. cc) (λ e. cc) is)
   rules_bad (RulesEnd.starved want reads stays sink) is = absurd (let e : status.Memory ≡ status.BadRules = sym want ∙ is in cc)
   rules_bad (RulesEnd.answered given (Printed text) right reads only) is = absurd (put_other only.puts status.BadRules (λ e. cc) (λ e. cc) (λ e. cc) is)
   rules_bad (RulesEnd.answered given (Bad line) right reads only) is =
-      on_told before.files (λ files. IsRulesRight file files (Bad line)) (λ files. IsBadRules words files before.sink.taken after.sink.taken) right
+      on_told before.files (λ files. IsRulesRight file files (Bad line)) (λ files. IsBadRules words files before.sink.received after.sink.received) right
       (λ files told its. (line, said_is files (Bad line) given its (put_line only.puts (λ e. cc) (λ e. cc) is)))
   rules_bad (RulesEnd.answered given (TooLarge line) right reads only) is = absurd (put_other only.puts status.BadRules (λ e. cc) (λ e. cc) (λ e. cc) is)
 
-  pub rules_too_large : End → result ≡ status.TooLarge → IfSome before.files (λ files. IsTooLarge words files before.sink.taken after.sink.taken)
+  pub rules_too_large : End → result ≡ status.TooLarge → IfSome before.files (λ files. IsTooLarge words files before.sink.received after.sink.received)
   rules_too_large (RulesEnd.not_yet at reads only) is = absurd (put_other only.puts status.TooLarge (λ e. cc) (λ e. cc) (λ e. cc) is)
   rules_too_large (RulesEnd.read_fault given rose never only) is = absurd (put_other only.puts status.TooLarge (λ e. cc) (λ e. cc) (λ e. cc) is)
   rules_too_large (RulesEnd.starved want reads stays sink) is = absurd (let e : status.Memory ≡ status.TooLarge = sym want ∙ is in cc)
   rules_too_large (RulesEnd.answered given (Printed text) right reads only) is = absurd (put_other only.puts status.TooLarge (λ e. cc) (λ e. cc) (λ e. cc) is)
   rules_too_large (RulesEnd.answered given (Bad line) right reads only) is = absurd (put_other only.puts status.TooLarge (λ e. cc) (λ e. cc) (λ e. cc) is)
   rules_too_large (RulesEnd.answered given (TooLarge line) right reads only) is =
-      on_told before.files (λ files. IsRulesRight file files (TooLarge line)) (λ files. IsTooLarge words files before.sink.taken after.sink.taken) right
+      on_told before.files (λ files. IsRulesRight file files (TooLarge line)) (λ files. IsTooLarge words files before.sink.received after.sink.received) right
       (λ files told its. (line, said_is files (TooLarge line) given its (put_line only.puts (λ e. cc) (λ e. cc) is)))
 
-  pub rules_not_yet : End → result ≡ status.NotYet → IsRules words built_in × Puts not_yet_line before.sink.taken after.sink.taken
+  pub rules_not_yet : End → result ≡ status.NotYet → IsRules words built_in × Puts not_yet_line before.sink.received after.sink.received
   rules_not_yet (RulesEnd.not_yet at reads only) is = (subst (IsRules words) at is_rules, put_line only.puts (λ e. cc) (λ e. cc) is)
   rules_not_yet (RulesEnd.read_fault given rose never only) is = absurd (put_other only.puts status.NotYet (λ e. cc) (λ e. cc) (λ e. cc) is)
   rules_not_yet (RulesEnd.starved want reads stays sink) is = absurd (let e : status.Memory ≡ status.NotYet = sym want ∙ is in cc)
   rules_not_yet (RulesEnd.answered given answer right reads only) is =
       absurd (put_other only.puts status.NotYet (status_is_not status.NotYet (λ e. cc) (λ e. cc) (λ e. cc) answer) (λ e. cc) (λ e. cc) is)
 
-  pub rules_read_fault : End → result ≡ status.ReadFault → Rose before.reads after.reads × Puts read_fault_line before.sink.taken after.sink.taken
+  pub rules_read_fault : End → result ≡ status.ReadFault → Rose before.reads after.reads × Puts read_fault_line before.sink.received after.sink.received
   rules_read_fault (RulesEnd.not_yet at reads only) is = absurd (put_other only.puts status.ReadFault (λ e. cc) (λ e. cc) (λ e. cc) is)
   rules_read_fault (RulesEnd.read_fault given rose never only) is = (rose, put_line only.puts (λ e. cc) (λ e. cc) is)
   rules_read_fault (RulesEnd.starved want reads stays sink) is = absurd (let e : status.Memory ≡ status.ReadFault = sym want ∙ is in cc)

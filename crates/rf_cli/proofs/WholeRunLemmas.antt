@@ -8,27 +8,27 @@ use Rattle.rf_world.specs.Fault.{Rose}
 use Rattle.rf_world.specs.World.{Files, MayHoldPrefix}
 use Rattle.rf_engine.specs.declared.first_form.FirstPath.{FirstPath}
 use Rattle.rf_engine.specs.declared.first_form.FirstPath.TheVariants.{Changed, Refused, NotYet}
-use Rattle.rf_engine.specs.FirstForm.{Form, answer_of}
+use Rattle.rf_engine.specs.FirstForm.{FirstForm, answer_of}
 use Rattle.rf_engine.specs.ClassFile.{names_of}
 use Rattle.rf_cli.specs.declared.status.Status.{Status}
 use Rattle.rf_cli.specs.declared.status.Status.TheVariants as status
 use Rattle.rf_cli.specs.Acting.{RunState, WriteEnd, run_state, Acts}
 use Rattle.rf_cli.specs.Command.{Apply, IsApply, IsRules, built_in}
 use Rattle.rf_cli.specs.Put.{IsPut, PutEnd, Puts, SinkState, PutsWriteFault}
-use Rattle.rf_cli.specs.Reads.{HoldsForm, IsRight}
+use Rattle.rf_cli.specs.Inputs.{HoldsForm, IsRight}
 use Rattle.rf_cli.specs.WholeRun.{HasAnswer, HasNoForm}
 
 -- a failed call or want of memory, other than of a read
 abbrev pub Fails : Status → Type 0
 Fails result = (result ≡ status.WriteFault) ⊎ (result ≡ status.Memory)
 
-one_of_three : (a b c d e : List ℕ) (same taken : Bool) → cond same (Changed a b) (cond taken (Refused c) (Changed d e)) ≡ NotYet → ⊥
-one_of_three a b c d e true taken none = cc
+one_of_three : (a b c d e : List ℕ) (same in_use : Bool) → cond same (Changed a b) (cond in_use (Refused c) (Changed d e)) ≡ NotYet → ⊥
+one_of_three a b c d e true in_use none = cc
 one_of_three a b c d e false true none = cc
 one_of_three a b c d e false false none = cc
 
 -- a form always has an answer
-answered : (form : Form) → answer_of form ≡ NotYet → ⊥
+answered : (form : FirstForm) → answer_of form ≡ NotYet → ⊥
 answered form none = one_of_three _ _ _ _ _ (bytes_eq form.new form.old) (list_any (bytes_eq form.new) (names_of form.file)) none
 
 -- the words are one command at most
@@ -64,7 +64,7 @@ module _ (words : List (List ℕ)) (command : Apply) (is_apply : IsApply words c
       let it = right.some_form some in
       record { is_apply = is_apply; form = it.0; holds = it.1; answer_is = (right.of_form path it.0 it.1).1 }
 
-  pub held : (files : Files) {answer : FirstPath} → (answer ≢ NotYet → (form : Form) × HoldsForm command files path form) → answer ≢ NotYet → HasNoForm words files → ⊥
+  pub held : (files : Files) {answer : FirstPath} → (answer ≢ NotYet → (form : FirstForm) × HoldsForm command files path form) → answer ≢ NotYet → HasNoForm words files → ⊥
   held files some_form some none =
       let it = some_form some in
       none.none path it.0 (subst (λ c. HoldsForm c files path it.0) (same_command words command none.command is_apply none.is_apply) it.1)
@@ -81,7 +81,7 @@ module _ {wanted : Status} {line : List ℕ} {before after : SinkState} {result 
     | PutEnd.starved is front same ↦ inr (inr is)
   ]
 
-  pub put_line : wanted ≢ status.WriteFault → wanted ≢ status.Memory → result ≡ wanted → Puts line before.taken after.taken
+  pub put_line : wanted ≢ status.WriteFault → wanted ≢ status.Memory → result ≡ wanted → Puts line before.received after.received
   put_line no_fault no_want wants = elim put.end [
     | PutEnd.whole is line same ↦ line
     | PutEnd.failed is front rose ↦ absurd (no_fault (sym wants ∙ is))

@@ -2,7 +2,7 @@ pub mod Acting
 pub mod Command
 pub mod Listing
 pub mod Put
-pub mod Reads
+pub mod Inputs
 pub mod RulesEnd
 pub mod RunEnd
 pub mod Status

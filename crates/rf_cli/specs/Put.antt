@@ -20,7 +20,7 @@ write_fault_line = codes "write fault" ++ line_end
 
 -- the line was put, whole
 abbrev pub Puts : List ℕ → Option (List ℕ) → Option (List ℕ) → Type 0
-Puts line before after = after ≡ option_map (λ taken. taken ++ line) before
+Puts line before after = after ≡ option_map (λ received. received ++ line) before
 
 -- a front of the line was put
 abbrev pub PutsFront : List ℕ → Option (List ℕ) → Option (List ℕ) → Type 0
@@ -28,20 +28,20 @@ PutsFront line before after = (count : ℕ) × Puts (take count line) before aft
 
 -- what a sink tells: the bytes that it took, its failed calls, its calls
 pub record SinkState : Type 0 where
-  pub taken : Option (List ℕ)
+  pub received : Option (List ℕ)
   pub faults : ℕ
   pub puts : ℕ
 
 abbrev pub sink_state : Option (List ℕ) → ℕ → ℕ → SinkState
-sink_state taken faults puts = record { taken = taken; faults = faults; puts = puts }
+sink_state received faults puts = record { received = received; faults = faults; puts = puts }
 
 -- how the put of a line ends: with the status that is wanted, a failed call, or want of memory
 pub data PutEnd (wanted : Status) (line : List ℕ) (before after : SinkState) (result : Status) : Type 0 where
-  whole : result ≡ wanted → Puts line before.taken after.taken
+  whole : result ≡ wanted → Puts line before.received after.received
       → after.faults ≡ before.faults → PutEnd wanted line before after result
-  failed : result ≡ status.WriteFault → PutsFront line before.taken after.taken
+  failed : result ≡ status.WriteFault → PutsFront line before.received after.received
       → Rose before.faults after.faults → PutEnd wanted line before after result
-  starved : result ≡ status.Memory → PutsFront line before.taken after.taken
+  starved : result ≡ status.Memory → PutsFront line before.received after.received
       → after.faults ≡ before.faults → PutEnd wanted line before after result
 
 -- one put, of this line

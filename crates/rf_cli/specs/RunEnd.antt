@@ -7,7 +7,7 @@ use Rattle.rf_cli.specs.declared.status.Status.TheVariants as status
 use Rattle.rf_cli.specs.Acting.{Acts, OnlyPuts, RunState, WritesNothing}
 use Rattle.rf_cli.specs.Command.{Apply, AreBadWords, IsApply, IsRules}
 use Rattle.rf_cli.specs.Put.{bad_words_line, read_fault_line}
-use Rattle.rf_cli.specs.Reads.{IsRight}
+use Rattle.rf_cli.specs.Inputs.{IsRight}
 use Rattle.rf_cli.specs.RulesEnd.{RulesEnd}
 
 -- a read failed, which none does in an honest world that has the request; memory was wanted before anything was put; or what

@@ -1,7 +1,7 @@
 ghost use Rattle.std.specs.Prelude.{◌≡◌, IfOk, IfSome, IsErrOf, IsSome, IsTrue, []};
 ghost use Rattle.rf_world.specs.Fault.{HasCause};
 ghost use Rattle.rf_cli.specs.Command.{command_seen};
-ghost use Rattle.rf_cli.specs.Reads.{IsRight};
+ghost use Rattle.rf_cli.specs.Inputs.{IsRight};
 
 use crate::command::ApplyWords;
 use crate::java_files::only_java;

@@ -13,10 +13,10 @@ use Rattle.rf_engine.proofs.PieceLemmas.{chained, blanks_of-is, blanks_of-longes
 use Rattle.rf_engine.proofs.FieldLemmas.{field_of-append}
 
 -- no field begins where the class ends
-no_field_at_end : (closing tail : List ℕ) → AreBlanks closing → field_of (closing ++ (codes "}" ++ tail)) ≡ None
+no_field_at_end : (last_gap tail : List ℕ) → AreBlanks last_gap → field_of (last_gap ++ (codes "}" ++ tail)) ≡ None
 unfolding field_of
-no_field_at_end closing tail blanks =
-    rw (before_word-other 105 (110 ∷ 116 ∷ []) closing 125 tail blanks refl refl)
+no_field_at_end last_gap tail blanks =
+    rw (before_word-other 105 (110 ∷ 116 ∷ []) last_gap 125 tail blanks refl refl)
 
 -- a text begins with as many fields in one way only
 same_fields : (fields others : List Field) (rest left : List ℕ) → flat_map field_bytes fields ++ rest ≡ flat_map field_bytes others ++ left → All IsField fields → All IsField others → field_of rest ≡ None → field_of left ≡ None → (fields ≡ others) × (rest ≡ left)
@@ -83,24 +83,24 @@ head_of-Some text cut gives =
 
 -- a class from behind its fields, whole
 record IsEnd (text : List ℕ) (end : End) : Type 0 where
-  pub whole : text ≡ end.closing ++ (codes "}" ++ end.tail)
-  pub closing : AreBlanks end.closing
+  pub whole : text ≡ end.last_gap ++ (codes "}" ++ end.tail)
+  pub last_gap : AreBlanks end.last_gap
   pub tail : AreBlanks end.tail
 
 end_of-is : (text : List ℕ) (end : End) → IsEnd text end → end_of text ≡ Some end
 unfolding end_of
 end_of-is text end is =
-    let brace = before_word-append (codes "}") end.closing end.tail is.closing refl in
+    let brace = before_word-append (codes "}") end.last_gap end.tail is.last_gap refl in
     let tail : blanks_of end.tail ≡ (end.tail, []) = blanks_of-is end.tail end.tail [] (record { whole = sym (append-nil end.tail); passes = is.tail; stops = tt }) in
     rw (is.whole, brace, tail)
 
-end_here : (text tail rest : List ℕ) (found end : End) → IsBeforeWord (codes "}") text found.closing tail → IsLongestFront is_blank tail found.tail rest → end_before rest found ≡ Some end → IsEnd text end
+end_here : (text tail rest : List ℕ) (found end : End) → IsBeforeWord (codes "}") text found.last_gap tail → IsLongestFront is_blank tail found.tail rest → end_before rest found ≡ Some end → IsEnd text end
 end_here text tail [] found end brace blanks gives =
     let same : found ≡ end = cc in
     let ends : tail ≡ found.tail = blanks.whole ∙ append-nil found.tail in
     subst (λ (e : End). IsEnd text e) same (record {
-      whole = brace.whole ∙ ap (λ t. found.closing ++ (codes "}" ++ t)) ends;
-      closing = brace.blanks;
+      whole = brace.whole ∙ ap (λ t. found.last_gap ++ (codes "}" ++ t)) ends;
+      last_gap = brace.blanks;
       tail = blanks.passes;
     })
 end_here text tail (byte ∷ bytes) found end brace blanks gives = cc
@@ -109,7 +109,7 @@ end_of-Some : (text : List ℕ) (end : End) → end_of text ≡ Some end → IsE
 unfolding end_of
 end_of-Some text end gives =
     let brace = chained (before_word (codes "}") text) _ end gives in
-    end_here text brace.value.1 (blanks_of brace.value.1).1 (record { closing = brace.value.0; tail = (blanks_of brace.value.1).0 }) end
+    end_here text brace.value.1 (blanks_of brace.value.1).1 (record { last_gap = brace.value.0; tail = (blanks_of brace.value.1).0 }) end
     (before_word-Some (codes "}") text brace.value brace.first_gives) (blanks_of-longest brace.value.1) brace.next_gives
 
 -- the parts of a class, and a class from its parts
@@ -117,10 +117,10 @@ abbrev head_in : ClassFile → Head
 head_in file = record { before = file.before; gap = file.gap; name = file.name; opening = file.opening }
 
 abbrev end_in : ClassFile → End
-end_in file = record { closing = file.closing; tail = file.tail }
+end_in file = record { last_gap = file.last_gap; tail = file.tail }
 
 abbrev from_end_in : ClassFile → List ℕ
-from_end_in file = file.closing ++ (codes "}" ++ file.tail)
+from_end_in file = file.last_gap ++ (codes "}" ++ file.tail)
 
 abbrev pub class_of : Head → List Field → End → ClassFile
 class_of head fields end = record {
@@ -129,7 +129,7 @@ class_of head fields end = record {
   name = head.name;
   opening = head.opening;
   fields = fields;
-  closing = end.closing;
+  last_gap = end.last_gap;
   tail = end.tail;
 }
 
@@ -142,10 +142,10 @@ head_found text file is bytes = head_of-is text (head_in file) (flat_map field_b
 
 fields_found : (file : ClassFile) (text : List ℕ) (fields : List Field) (rest : List ℕ) → IsClassFile file → text ≡ flat_map field_bytes file.fields ++ from_end_in file → BeginsWithFields text fields rest → (fields ≡ file.fields) × (rest ≡ from_end_in file)
 fields_found file text fields rest is bytes begins =
-    same_fields fields file.fields rest (from_end_in file) (sym begins.whole ∙ bytes) begins.are_fields is.fields begins.stops (no_field_at_end file.closing file.tail is.closing)
+    same_fields fields file.fields rest (from_end_in file) (sym begins.whole ∙ bytes) begins.are_fields is.fields begins.stops (no_field_at_end file.last_gap file.tail is.last_gap)
 
 end_found : (file : ClassFile) (rest : List ℕ) → IsClassFile file → rest ≡ from_end_in file → end_of rest ≡ Some (end_in file)
-end_found file rest is bytes = end_of-is rest (end_in file) (record { whole = bytes; closing = is.closing; tail = is.tail })
+end_found file rest is bytes = end_of-is rest (end_in file) (record { whole = bytes; last_gap = is.last_gap; tail = is.tail })
 
 -- where the head, the fields or the end are not found there is no class
 pub no_head : (text : List ℕ) → head_of text ≡ None → (file : ClassFile) → IsClassFile file → text ≡ class_bytes file → ⊥
@@ -170,7 +170,7 @@ no_end text head from_fields fields rest found begins none file is bytes =
 class_of_parts : (head : Head) (fields : List Field) (end : End) (file : ClassFile) → head ≡ head_in file → fields ≡ file.fields → end ≡ end_in file → file ≡ class_of head fields end
 class_of_parts head fields end file heads fields_same ends = rw (heads, fields_same, ends)
 
-class_whole : (head : Head) (fields : List Field) (end : End) (text from_fields rest : List ℕ) → text ≡ head.before ++ (codes "class" ++ (head.gap ++ (head.name ++ (head.opening ++ (codes "{" ++ from_fields))))) → from_fields ≡ flat_map field_bytes fields ++ rest → rest ≡ end.closing ++ (codes "}" ++ end.tail) → text ≡ class_bytes (class_of head fields end)
+class_whole : (head : Head) (fields : List Field) (end : End) (text from_fields rest : List ℕ) → text ≡ head.before ++ (codes "class" ++ (head.gap ++ (head.name ++ (head.opening ++ (codes "{" ++ from_fields))))) → from_fields ≡ flat_map field_bytes fields ++ rest → rest ≡ end.last_gap ++ (codes "}" ++ end.tail) → text ≡ class_bytes (class_of head fields end)
 class_whole head fields end text from_fields rest first body last = rw (first, body, last)
 
 -- and where they are found the text is the class that they make, and no other one
@@ -186,7 +186,7 @@ class_found text head from_fields fields rest end found begins ends =
         name = first.is_head.name;
         opening = first.is_head.opening;
         fields = begins.are_fields;
-        closing = last.closing;
+        last_gap = last.last_gap;
         tail = last.tail;
       };
       bytes_are = class_whole head fields end text from_fields rest first.whole begins.whole last.whole;

@@ -6,97 +6,97 @@ use Rattle.std.proofs.lemmas.List.Concat.{flat_map-append}
 use Rattle.std.proofs.lemmas.List.Elements.{All-nil, All-push}
 use Rattle.rf_engine.specs.Words.{AreBlanks, is_letter_or_digit}
 use Rattle.rf_engine.specs.Scan.{Stops, name_of}
-use Rattle.rf_engine.specs.ClassFile.{Value, Field, IsValue, IsField, value_bytes, field_bytes}
-use Rattle.rf_engine.specs.ClassReader.{blanks_of, before_word, parted_name, value_of, value_behind, field_of}
+use Rattle.rf_engine.specs.ClassFile.{Initializer, Field, IsInitializer, IsField, initializer_bytes, field_bytes}
+use Rattle.rf_engine.specs.ClassReader.{blanks_of, before_word, parted_name, initializer_of, initializer_behind, field_of}
 use Rattle.rf_engine.proofs.ScanLemmas.{name_of-Some}
 use Rattle.rf_engine.proofs.PieceLemmas.{chained, blanks_of-append, blanks_of-longest, before_word-append, before_word-other, before_word-Some, name_of-append, name_stops_blanks, blanks_end_name, parted_name-append, parted_name-Some}
 
 -- what follows the name of a field ends it
-value_ends_name : (value : Option Value) (after rest : List ℕ) → IfSome value IsValue → AreBlanks after → Stops is_letter_or_digit (value_bytes value ++ (after ++ (codes ";" ++ rest)))
-value_ends_name None after rest is are = blanks_end_name after (codes ";" ++ rest) are refl
-value_ends_name (Some value) after rest is are =
+initializer_ends_name : (initializer : Option Initializer) (after rest : List ℕ) → IfSome initializer IsInitializer → AreBlanks after → Stops is_letter_or_digit (initializer_bytes initializer ++ (after ++ (codes ";" ++ rest)))
+initializer_ends_name None after rest is are = blanks_end_name after (codes ";" ++ rest) are refl
+initializer_ends_name (Some initializer) after rest is are =
     let end = after ++ (codes ";" ++ rest) in
-    rw append_assoc (blanks_end_name value.before ((codes "=" ++ (value.gap ++ value.name)) ++ end) is.before refl)
+    rw append_assoc (blanks_end_name initializer.before ((codes "=" ++ (initializer.gap ++ initializer.name)) ++ end) is.before refl)
 
 -- an initializer is read, and none where there is none
-value_of-append : (value : Option Value) (after rest : List ℕ) → IfSome value IsValue → AreBlanks after → value_of (value_bytes value ++ (after ++ (codes ";" ++ rest))) ≡ Some (value, after ++ (codes ";" ++ rest))
-unfolding value_of value_behind
-value_of-append None after rest is are = rw (before_word-other 61 [] after 59 rest are refl refl)
-value_of-append (Some value) after rest is are =
+initializer_of-append : (initializer : Option Initializer) (after rest : List ℕ) → IfSome initializer IsInitializer → AreBlanks after → initializer_of (initializer_bytes initializer ++ (after ++ (codes ";" ++ rest))) ≡ Some (initializer, after ++ (codes ";" ++ rest))
+unfolding initializer_of initializer_behind
+initializer_of-append None after rest is are = rw (before_word-other 61 [] after 59 rest are refl refl)
+initializer_of-append (Some initializer) after rest is are =
     let end = after ++ (codes ";" ++ rest) in
-    let regrouped : value_bytes (Some value) ++ end ≡ value.before ++ (codes "=" ++ (value.gap ++ (value.name ++ end))) = simp append_assoc in
-    let equals = before_word-append (codes "=") value.before (value.gap ++ (value.name ++ end)) is.before refl in
-    let gap = blanks_of-append value.gap (value.name ++ end) is.gap (name_stops_blanks value.name end is.name) in
-    let name = name_of-append value.name end is.name (blanks_end_name after (codes ";" ++ rest) are refl) in
+    let regrouped : initializer_bytes (Some initializer) ++ end ≡ initializer.before ++ (codes "=" ++ (initializer.gap ++ (initializer.name ++ end))) = simp append_assoc in
+    let equals = before_word-append (codes "=") initializer.before (initializer.gap ++ (initializer.name ++ end)) is.before refl in
+    let gap = blanks_of-append initializer.gap (initializer.name ++ end) is.gap (name_stops_blanks initializer.name end is.name) in
+    let name = name_of-append initializer.name end is.name (blanks_end_name after (codes ";" ++ rest) are refl) in
     rw (regrouped, equals, gap, name)
 
 -- a field is read, whatever follows it
 pub field_of-append : (field : Field) (rest : List ℕ) → IsField field → field_of (field_bytes field ++ rest) ≡ Some (field, rest)
 unfolding field_of
 field_of-append field rest is =
-    let behind_name = value_bytes field.value ++ (field.after ++ (codes ";" ++ rest)) in
+    let behind_name = initializer_bytes field.initializer ++ (field.after ++ (codes ";" ++ rest)) in
     let regrouped : field_bytes field ++ rest ≡ field.before ++ (codes "int" ++ (field.gap ++ (field.name ++ behind_name))) = simp append_assoc in
     let int = before_word-append (codes "int") field.before (field.gap ++ (field.name ++ behind_name)) is.before refl in
-    let name = parted_name-append field.gap field.name behind_name is.parted is.gap is.name (value_ends_name field.value field.after rest is.value is.after) in
-    let value = value_of-append field.value field.after rest is.value is.after in
+    let name = parted_name-append field.gap field.name behind_name is.parted is.gap is.name (initializer_ends_name field.initializer field.after rest is.initializer is.after) in
+    let initializer = initializer_of-append field.initializer field.after rest is.initializer is.after in
     let end = before_word-append (codes ";") field.after rest is.after refl in
-    rw (regrouped, int, name, value, end)
+    rw (regrouped, int, name, initializer, end)
 
 -- what is read as an initializer is one, or there is none and nothing is read
-record IsValueAt (text : List ℕ) (value : Option Value) (rest : List ℕ) : Type 0 where
-  pub whole : text ≡ value_bytes value ++ rest
-  pub is_value : IfSome value IsValue
+record IsInitializerAt (text : List ℕ) (initializer : Option Initializer) (rest : List ℕ) : Type 0 where
+  pub whole : text ≡ initializer_bytes initializer ++ rest
+  pub is_initializer : IfSome initializer IsInitializer
 
-value_whole : (value : Value) (text behind_equals from_name rest : List ℕ) → text ≡ value.before ++ (codes "=" ++ behind_equals) → behind_equals ≡ value.gap ++ from_name → from_name ≡ value.name ++ rest → text ≡ value_bytes (Some value) ++ rest
-value_whole value text behind_equals from_name rest equals gap name = rw (equals, gap, name) (simp append_assoc)
+initializer_whole : (initializer : Initializer) (text behind_equals from_name rest : List ℕ) → text ≡ initializer.before ++ (codes "=" ++ behind_equals) → behind_equals ≡ initializer.gap ++ from_name → from_name ≡ initializer.name ++ rest → text ≡ initializer_bytes (Some initializer) ++ rest
+initializer_whole initializer text behind_equals from_name rest equals gap name = rw (equals, gap, name) (simp append_assoc)
 
-value_here : (text : List ℕ) (found : Option (List ℕ × List ℕ)) (cut : Option Value × List ℕ) → before_word (codes "=") text ≡ found → value_behind text found ≡ Some cut → IsValueAt text cut.0 cut.1
-unfolding value_behind
-value_here text None cut is gives =
+initializer_here : (text : List ℕ) (found : Option (List ℕ × List ℕ)) (cut : Option Initializer × List ℕ) → before_word (codes "=") text ≡ found → initializer_behind text found ≡ Some cut → IsInitializerAt text cut.0 cut.1
+unfolding initializer_behind
+initializer_here text None cut is gives =
     let same : (None, text) ≡ cut = cc in
-    subst (λ (found : Option Value × List ℕ). IsValueAt text found.0 found.1) same (record { whole = refl; is_value = tt })
-value_here text (Some equals) cut is gives =
+    subst (λ (found : Option Initializer × List ℕ). IsInitializerAt text found.0 found.1) same (record { whole = refl; is_initializer = tt })
+initializer_here text (Some equals) cut is gives =
     let before = before_word-Some (codes "=") text equals is in
     let gap = blanks_of-longest equals.1 in
     let name = chained (name_of (blanks_of equals.1).1) _ cut gives in
     let begins = name_of-Some (blanks_of equals.1).1 name.value name.first_gives in
-    let value : Value = record { before = equals.0; gap = (blanks_of equals.1).0; name = name.value.0 } in
-    let same : (Some value, name.value.1) ≡ cut = cc name.next_gives in
-    subst (λ (found : Option Value × List ℕ). IsValueAt text found.0 found.1) same
+    let initializer : Initializer = record { before = equals.0; gap = (blanks_of equals.1).0; name = name.value.0 } in
+    let same : (Some initializer, name.value.1) ≡ cut = cc name.next_gives in
+    subst (λ (found : Option Initializer × List ℕ). IsInitializerAt text found.0 found.1) same
     (record {
-      whole = value_whole value text equals.1 (blanks_of equals.1).1 name.value.1 before.whole gap.whole begins.whole;
-      is_value = record { before = before.blanks; gap = gap.passes; name = begins.is_name };
+      whole = initializer_whole initializer text equals.1 (blanks_of equals.1).1 name.value.1 before.whole gap.whole begins.whole;
+      is_initializer = record { before = before.blanks; gap = gap.passes; name = begins.is_name };
     })
 
-value_of-Some : (text : List ℕ) (cut : Option Value × List ℕ) → value_of text ≡ Some cut → IsValueAt text cut.0 cut.1
-unfolding value_of
-value_of-Some text cut gives = value_here text (before_word (codes "=") text) cut refl gives
+initializer_of-Some : (text : List ℕ) (cut : Option Initializer × List ℕ) → initializer_of text ≡ Some cut → IsInitializerAt text cut.0 cut.1
+unfolding initializer_of
+initializer_of-Some text cut gives = initializer_here text (before_word (codes "=") text) cut refl gives
 
 -- what is read as a field is one
 pub record IsFieldAt (text : List ℕ) (field : Field) (rest : List ℕ) : Type 0 where
   pub whole : text ≡ field_bytes field ++ rest
   pub is_field : IsField field
 
-field_whole : (field : Field) (text behind_int behind_name from_after rest : List ℕ) → text ≡ field.before ++ (codes "int" ++ behind_int) → behind_int ≡ field.gap ++ (field.name ++ behind_name) → behind_name ≡ value_bytes field.value ++ from_after → from_after ≡ field.after ++ (codes ";" ++ rest) → text ≡ field_bytes field ++ rest
-field_whole field text behind_int behind_name from_after rest int name value end = rw (int, name, value, end) (simp append_assoc)
+field_whole : (field : Field) (text behind_int behind_name from_after rest : List ℕ) → text ≡ field.before ++ (codes "int" ++ behind_int) → behind_int ≡ field.gap ++ (field.name ++ behind_name) → behind_name ≡ initializer_bytes field.initializer ++ from_after → from_after ≡ field.after ++ (codes ";" ++ rest) → text ≡ field_bytes field ++ rest
+field_whole field text behind_int behind_name from_after rest int name initializer end = rw (int, name, initializer, end) (simp append_assoc)
 
 pub field_of-Some : (text : List ℕ) (cut : Field × List ℕ) → field_of text ≡ Some cut → IsFieldAt text cut.0 cut.1
 unfolding field_of
 field_of-Some text cut gives =
     let int = chained (before_word (codes "int") text) _ cut gives in
     let name = chained (parted_name int.value.1) _ cut int.next_gives in
-    let value = chained (value_of name.value.2) _ cut name.next_gives in
-    let end = chained (before_word (codes ";") value.value.1) _ cut value.next_gives in
+    let initializer = chained (initializer_of name.value.2) _ cut name.next_gives in
+    let end = chained (before_word (codes ";") initializer.value.1) _ cut initializer.next_gives in
     let before = before_word-Some (codes "int") text int.value int.first_gives in
     let named = parted_name-Some int.value.1 name.value name.first_gives in
-    let is_value = value_of-Some name.value.2 value.value value.first_gives in
-    let after = before_word-Some (codes ";") value.value.1 end.value end.first_gives in
-    let field : Field = record { before = int.value.0; gap = name.value.0; name = name.value.1; value = value.value.0; after = end.value.0 } in
+    let is_initializer = initializer_of-Some name.value.2 initializer.value initializer.first_gives in
+    let after = before_word-Some (codes ";") initializer.value.1 end.value end.first_gives in
+    let field : Field = record { before = int.value.0; gap = name.value.0; name = name.value.1; initializer = initializer.value.0; after = end.value.0 } in
     let same : (field, end.value.1) ≡ cut = cc end.next_gives in
     subst (λ (found : Field × List ℕ). IsFieldAt text found.0 found.1) same
     (record {
-      whole = field_whole field text int.value.1 name.value.2 value.value.1 end.value.1 before.whole named.whole is_value.whole after.whole;
-      is_field = record { before = before.blanks; gap = named.blanks; parted = named.parted; name = named.is_name; value = is_value.is_value; after = after.blanks };
+      whole = field_whole field text int.value.1 name.value.2 initializer.value.1 end.value.1 before.whole named.whole is_initializer.whole after.whole;
+      is_field = record { before = before.blanks; gap = named.blanks; parted = named.parted; name = named.is_name; initializer = is_initializer.is_initializer; after = after.blanks };
     })
 
 -- fields that were read from the front of a text, and the rest

@@ -5,7 +5,7 @@ use Rattle.std.specs.Str.{bytes_eq}
 use Rattle.rf_engine.specs.Words.{AreBlanks, IsName}
 
 -- the initializer of a field: `=` and the name of a field, with the blanks before each
-pub record Value : Type 0 where
+pub record Initializer : Type 0 where
   pub before : List ℕ
   pub gap : List ℕ
   pub name : List ℕ
@@ -15,7 +15,7 @@ pub record Field : Type 0 where
   pub before : List ℕ
   pub gap : List ℕ
   pub name : List ℕ
-  pub value : Option Value
+  pub initializer : Option Initializer
   pub after : List ℕ
 
 -- a class: `class`, its name, `{`, its fields and `}`, with the blanks before each and those at the end
@@ -25,35 +25,35 @@ pub record ClassFile : Type 0 where
   pub name : List ℕ
   pub opening : List ℕ
   pub fields : List Field
-  pub closing : List ℕ
+  pub last_gap : List ℕ
   pub tail : List ℕ
 
 -- the bytes of each
-abbrev pub value_bytes : Option Value → List ℕ
-value_bytes None = []
-value_bytes (Some value) = value.before ++ (codes "=" ++ (value.gap ++ value.name))
+abbrev pub initializer_bytes : Option Initializer → List ℕ
+initializer_bytes None = []
+initializer_bytes (Some initializer) = initializer.before ++ (codes "=" ++ (initializer.gap ++ initializer.name))
 
 abbrev pub field_bytes : Field → List ℕ
 field_bytes field =
-    field.before ++ (codes "int" ++ (field.gap ++ (field.name ++ (value_bytes field.value ++ (field.after ++ codes ";")))))
+    field.before ++ (codes "int" ++ (field.gap ++ (field.name ++ (initializer_bytes field.initializer ++ (field.after ++ codes ";")))))
 
 abbrev pub class_bytes : ClassFile → List ℕ
 class_bytes file =
     file.before ++ (codes "class" ++ (file.gap ++ (file.name ++ (file.opening ++ (codes "{"
-    ++ (flat_map field_bytes file.fields ++ (file.closing ++ (codes "}" ++ file.tail))))))))
+    ++ (flat_map field_bytes file.fields ++ (file.last_gap ++ (codes "}" ++ file.tail))))))))
 
 -- blanks stand where blanks may, with at least one between two words, and names where names are wanted
-pub record IsValue (value : Value) : Type 0 where
-  pub before : AreBlanks value.before
-  pub gap : AreBlanks value.gap
-  pub name : IsName value.name
+pub record IsInitializer (initializer : Initializer) : Type 0 where
+  pub before : AreBlanks initializer.before
+  pub gap : AreBlanks initializer.gap
+  pub name : IsName initializer.name
 
 pub record IsField (field : Field) : Type 0 where
   pub before : AreBlanks field.before
   pub gap : AreBlanks field.gap
   pub parted : field.gap ≢ []
   pub name : IsName field.name
-  pub value : IfSome field.value IsValue
+  pub initializer : IfSome field.initializer IsInitializer
   pub after : AreBlanks field.after
 
 pub record IsClassFile (file : ClassFile) : Type 0 where
@@ -63,7 +63,7 @@ pub record IsClassFile (file : ClassFile) : Type 0 where
   pub name : IsName file.name
   pub opening : AreBlanks file.opening
   pub fields : All IsField file.fields
-  pub closing : AreBlanks file.closing
+  pub last_gap : AreBlanks file.last_gap
   pub tail : AreBlanks file.tail
 
 -- the names that the class declares, in order
@@ -74,11 +74,11 @@ names_of file = map (λ field. field.name) file.fields
 abbrev pub renamed : List ℕ → List ℕ → List ℕ → List ℕ
 renamed old new name = if bytes_eq name old then new else name
 
-abbrev pub renamed_value : List ℕ → List ℕ → Value → Value
-renamed_value old new value = record value { name = renamed old new value.name }
+abbrev pub renamed_initializer : List ℕ → List ℕ → Initializer → Initializer
+renamed_initializer old new initializer = record initializer { name = renamed old new initializer.name }
 
 abbrev pub renamed_field : List ℕ → List ℕ → Field → Field
-renamed_field old new field = record field { name = renamed old new field.name; value = option_map (renamed_value old new) field.value }
+renamed_field old new field = record field { name = renamed old new field.name; initializer = option_map (renamed_initializer old new) field.initializer }
 
 abbrev pub renamed_class : List ℕ → List ℕ → ClassFile → ClassFile
 renamed_class old new file = record file { fields = map (renamed_field old new) file.fields }

@@ -3,7 +3,7 @@ use Rattle.std.specs.Prelude.{◌≡◌, ℕ, List, [], ◌∷◌, ◌++◌, Opt
 use Rattle.std.specs.List.{flat_map}
 use Rattle.rf_engine.specs.Words.{is_blank}
 use Rattle.rf_engine.specs.Scan.{front_of, name_of, after_word}
-use Rattle.rf_engine.specs.ClassFile.{Value, Field, IsField, field_bytes}
+use Rattle.rf_engine.specs.ClassFile.{Initializer, Field, IsField, field_bytes}
 
 infixl 10 ◌>>=◌
 abbrev pub ◌>>=◌ : {A B : Type 0} → Option A → (A → Option B) → Option B
@@ -34,22 +34,22 @@ parted_name text = do
   Some (gap.0, name.0, name.1)
 
 -- an initializer, where `=` follows
-unfoldable pub value_behind : List ℕ → Option (List ℕ × List ℕ) → Option (Option Value × List ℕ)
-value_behind text None = Some (None, text)
-value_behind text (Some equals) = do
+unfoldable pub initializer_behind : List ℕ → Option (List ℕ × List ℕ) → Option (Option Initializer × List ℕ)
+initializer_behind text None = Some (None, text)
+initializer_behind text (Some equals) = do
   name ← name_of (blanks_of equals.1).1
   Some (Some (record { before = equals.0; gap = (blanks_of equals.1).0; name = name.0 }), name.1)
 
-unfoldable pub value_of : List ℕ → Option (Option Value × List ℕ)
-value_of text = value_behind text (before_word (codes "=") text)
+unfoldable pub initializer_of : List ℕ → Option (Option Initializer × List ℕ)
+initializer_of text = initializer_behind text (before_word (codes "=") text)
 
 unfoldable pub field_of : List ℕ → Option (Field × List ℕ)
 field_of text = do
   int ← before_word (codes "int") text
   name ← parted_name int.1
-  value ← value_of name.2
-  end ← before_word (codes ";") value.1
-  Some (record { before = int.0; gap = name.0; name = name.1; value = value.0; after = end.0 }, end.1)
+  initializer ← initializer_of name.2
+  end ← before_word (codes ";") initializer.1
+  Some (record { before = int.0; gap = name.0; name = name.1; initializer = initializer.0; after = end.0 }, end.1)
 
 -- as many fields as the text begins with
 pub record BeginsWithFields (text : List ℕ) (fields : List Field) (rest : List ℕ) : Type 0 where
@@ -73,7 +73,7 @@ head_of text = do
 
 -- a class from behind its fields: `}`, and blanks up to the end
 pub record End : Type 0 where
-  pub closing : List ℕ
+  pub last_gap : List ℕ
   pub tail : List ℕ
 
 abbrev pub end_before : List ℕ → End → Option End
@@ -83,4 +83,4 @@ end_before (byte ∷ bytes) end = None
 unfoldable pub end_of : List ℕ → Option End
 end_of text = do
   brace ← before_word (codes "}") text
-  end_before (blanks_of brace.1).1 (record { closing = brace.0; tail = (blanks_of brace.1).0 })
+  end_before (blanks_of brace.1).1 (record { last_gap = brace.0; tail = (blanks_of brace.1).0 })

@@ -8,7 +8,7 @@ use Rattle.rf_engine.specs.Words.{IsName}
 use Rattle.rf_engine.specs.ClassFile.{ClassFile, IsClassFile, class_bytes, names_of, renamed_class}
 
 -- a file and a request of the first form: the class, the field to be renamed and the name that it gets
-pub record Form : Type 0 where
+pub record FirstForm : Type 0 where
   pub file : ClassFile
   pub old : List ℕ
   pub new : List ℕ
@@ -17,15 +17,15 @@ abbrev pub line_end : List ℕ
 line_end = 10 ∷ []
 
 -- `rename field C.f to g`
-abbrev pub request_line : Form → List ℕ
+abbrev pub request_line : FirstForm → List ℕ
 request_line form = codes "rename field " ++ (form.file.name ++ (codes "." ++ (form.old ++ (codes " to " ++ form.new))))
 
 -- each initializer is the name of a field of the class (JLS 6.5.6.1, 8.3.2)
 abbrev pub InitializersAreBound : ClassFile → Type 0
-InitializersAreBound file = All (λ field. IfSome field.value (λ value. Contains (names_of file) value.name)) file.fields
+InitializersAreBound file = All (λ field. IfSome field.initializer (λ initializer. Contains (names_of file) initializer.name)) file.fields
 
 -- path, file and request are of the first form
-pub record IsForm (form : Form) (path file request : List ℕ) : Type 0 where
+pub record IsForm (form : FirstForm) (path file request : List ℕ) : Type 0 where
   pub class_file : IsClassFile form.file
   pub file_is : file ≡ class_bytes form.file
   -- a class stands in the file of its name (JLS 7.6); a class `java` would hide the package java (JLS 6.4.2)
@@ -40,29 +40,29 @@ pub record IsForm (form : Form) (path file request : List ℕ) : Type 0 where
   pub small_file : length file ≤ 1048576
   pub small_request : length request ≤ 65536
 
--- the lines put: nothing changed; one name changed; the new name is taken by another field
+-- the lines put: nothing changed; one name changed; the new name is in use by another field
 abbrev pub nothing_changed : List ℕ
 nothing_changed = codes "ok 0" ++ line_end
 
-abbrev pub one_changed : Form → List ℕ
+abbrev pub one_changed : FirstForm → List ℕ
 one_changed form =
     codes "ok 1" ++ (line_end ++ (codes "name field " ++ (form.file.name ++ (codes "." ++ (form.old ++ (codes " "
     ++ (form.old ++ (codes " " ++ (form.new ++ line_end)))))))))
 
-abbrev pub name_taken : Form → List ℕ
-name_taken form =
+abbrev pub name_in_use : FirstForm → List ℕ
+name_in_use form =
     codes "refused " ++ (form.file.name ++ (codes "." ++ (form.old ++ (codes " " ++ (form.file.name ++ (codes "."
     ++ (form.new ++ line_end)))))))
 
 -- the answer: the old name again changes nothing; the name of another field is refused, since a class has one field
 -- of a name (JLS 8.3); else the new name stands for the old one everywhere
-abbrev pub answer_of : Form → FirstPath
+abbrev pub answer_of : FirstForm → FirstPath
 answer_of form =
     if bytes_eq form.new form.old then Changed (class_bytes form.file) nothing_changed
-    else (if list_any (bytes_eq form.new) (names_of form.file) then Refused (name_taken form)
+    else (if list_any (bytes_eq form.new) (names_of form.file) then Refused (name_in_use form)
     else Changed (class_bytes (renamed_class form.old form.new form.file)) (one_changed form))
 
 -- the answer is that of the form, and `NotYet` exactly where there is none
 pub record IsAnswer (path file request : List ℕ) (answer : FirstPath) : Type 0 where
-  pub of_form : (form : Form) → IsForm form path file request → answer ≡ answer_of form
-  pub some_form : answer ≢ NotYet → (form : Form) × IsForm form path file request
+  pub of_form : (form : FirstForm) → IsForm form path file request → answer ≡ answer_of form
+  pub some_form : answer ≢ NotYet → (form : FirstForm) × IsForm form path file request

@@ -5,6 +5,6 @@ pub mod FirstForm
 pub mod ClassReader
 pub mod Seen
 pub mod Reading
-pub mod Form
+pub mod FirstParts
 pub mod Request
 pub mod FieldNames

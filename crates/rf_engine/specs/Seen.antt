@@ -1,7 +1,7 @@
 -- The parts that the program has cut a file into, as the texts that they are.
 use Rattle.std.specs.Prelude.{ℕ, List, Option, option_map, map}
-use Rattle.rf_engine.specs.ClassFile.{Value, Field, ClassFile}
-use Rattle.rf_engine.specs.declared.class_file.ValueParts.{ValueParts}
+use Rattle.rf_engine.specs.ClassFile.{Initializer, Field, ClassFile}
+use Rattle.rf_engine.specs.declared.class_file.InitializerParts.{InitializerParts}
 use Rattle.rf_engine.specs.declared.class_file.FieldParts.{FieldParts}
 use Rattle.rf_engine.specs.declared.class_file.ClassParts.{ClassParts}
 use Rattle.rf_engine.specs.ClassReader.{Head, End}
@@ -9,18 +9,18 @@ use Rattle.rf_engine.specs.declared.class_file.HeadCut.{HeadCut}
 use Rattle.rf_engine.specs.declared.class_file.EndParts.{EndParts}
 use Rattle.rf_engine.specs.declared.field.FieldCut.{FieldCut}
 use Rattle.rf_engine.specs.declared.field.NameCut.{NameCut}
-use Rattle.rf_engine.specs.declared.field.ValueCut.{ValueCut}
+use Rattle.rf_engine.specs.declared.field.InitializerCut.{InitializerCut}
 use Rattle.rf_engine.specs.declared.scan.Cut.{Cut}
 
-abbrev pub value_seen : ValueParts → Value
-value_seen parts = record { before = parts.before.now; gap = parts.gap.now; name = parts.name.now }
+abbrev pub initializer_seen : InitializerParts → Initializer
+initializer_seen parts = record { before = parts.before.now; gap = parts.gap.now; name = parts.name.now }
 
 abbrev pub field_seen : FieldParts → Field
 field_seen parts = record {
   before = parts.before.now;
   gap = parts.gap.now;
   name = parts.name.now;
-  value = option_map value_seen parts.value;
+  initializer = option_map initializer_seen parts.initializer;
   after = parts.after.now;
 }
 
@@ -31,7 +31,7 @@ class_seen parts = record {
   name = parts.name.now;
   opening = parts.opening.now;
   fields = map field_seen parts.fields;
-  closing = parts.closing.now;
+  last_gap = parts.last_gap.now;
   tail = parts.tail.now;
 }
 
@@ -42,8 +42,8 @@ cut_seen cut = (cut.front.now, cut.rest.now)
 abbrev pub name_cut_seen : NameCut → List ℕ × List ℕ × List ℕ
 name_cut_seen cut = (cut.gap.now, cut.name.now, cut.rest.now)
 
-abbrev pub value_cut_seen : ValueCut → Option Value × List ℕ
-value_cut_seen cut = (option_map value_seen cut.value, cut.rest.now)
+abbrev pub initializer_cut_seen : InitializerCut → Option Initializer × List ℕ
+initializer_cut_seen cut = (option_map initializer_seen cut.initializer, cut.rest.now)
 
 abbrev pub field_cut_seen : FieldCut → Field × List ℕ
 field_cut_seen cut = (field_seen cut.field, cut.rest.now)
@@ -52,4 +52,4 @@ abbrev pub head_cut_seen : HeadCut → Head × List ℕ
 head_cut_seen cut = (record { before = cut.before.now; gap = cut.gap.now; name = cut.name.now; opening = cut.opening.now }, cut.rest.now)
 
 abbrev pub end_seen : EndParts → End
-end_seen parts = record { closing = parts.closing.now; tail = parts.tail.now }
+end_seen parts = record { last_gap = parts.last_gap.now; tail = parts.tail.now }

@@ -1,9 +1,9 @@
 ghost use Rattle.std.specs.Prelude.{◌≡◌, ◌++◌, IfOk, OnOk, map, option_map};
 ghost use Rattle.std.specs.List.{flat_map};
-ghost use Rattle.rf_engine.specs.ClassFile.{value_bytes, field_bytes, class_bytes, renamed, renamed_value, renamed_field, renamed_class};
+ghost use Rattle.rf_engine.specs.ClassFile.{initializer_bytes, field_bytes, class_bytes, renamed, renamed_initializer, renamed_field, renamed_class};
 ghost use Rattle.rf_engine.specs.ClassReader.{BeginsWithFields, head_of, end_of};
 ghost use Rattle.rf_engine.specs.Reading.{IsOnlyReading};
-ghost use Rattle.rf_engine.specs.Seen.{value_seen, field_seen, class_seen, head_cut_seen, end_seen};
+ghost use Rattle.rf_engine.specs.Seen.{initializer_seen, field_seen, class_seen, head_cut_seen, end_seen};
 
 use crate::field::{before_word, parted_name, read_field};
 use crate::scan::blanks;
@@ -12,7 +12,7 @@ use std::alloc::Global;
 
 /// The initializer of a field, cut from the file.
 #[derive(Clone, Copy, Debug)]
-pub(crate) struct ValueParts<'a> {
+pub(crate) struct InitializerParts<'a> {
     pub before: &'a [u8],
     pub gap: &'a [u8],
     pub name: &'a [u8],
@@ -24,7 +24,7 @@ pub(crate) struct FieldParts<'a> {
     pub before: &'a [u8],
     pub gap: &'a [u8],
     pub name: &'a [u8],
-    pub value: Option<ValueParts<'a>>,
+    pub initializer: Option<InitializerParts<'a>>,
     pub after: &'a [u8],
 }
 
@@ -36,7 +36,7 @@ pub(crate) struct ClassParts<'a> {
     pub name: &'a [u8],
     pub opening: &'a [u8],
     pub fields: List<FieldParts<'a>>,
-    pub closing: &'a [u8],
+    pub last_gap: &'a [u8],
     pub tail: &'a [u8],
 }
 
@@ -60,7 +60,7 @@ struct FieldsCut<'a> {
 /// A class from behind its fields to the end of the file.
 #[derive(Clone, Copy, Debug)]
 struct EndParts<'a> {
-    closing: &'a [u8],
+    last_gap: &'a [u8],
     tail: &'a [u8],
 }
 
@@ -103,7 +103,7 @@ fn read_end(text: &[u8]) -> Option<EndParts<'_>>
         return None;
     }
     Some(EndParts {
-        closing: brace.front,
+        last_gap: brace.front,
         tail: tail.front,
     })
 }
@@ -128,7 +128,7 @@ pub(crate) fn read_class<'a>(
         name: head.name,
         opening: head.opening,
         fields: body.fields,
-        closing: end.closing,
+        last_gap: end.last_gap,
         tail: end.tail,
     }))
 }
@@ -140,19 +140,20 @@ fn renamed<'a>(name: &'a [u8], old: &[u8], new: &'a [u8]) -> &'a [u8]
     if name == old { new } else { name }
 }
 
-fn write_value(
+fn write_initializer(
     out: &mut Bytes,
-    value: &ValueParts<'_>,
+    initializer: &InitializerParts<'_>,
     old: &[u8],
     new: &[u8],
 ) -> Result<(), Memory>
     ensures { OnOk result (out.new ≡ out.old
-        ++ value_bytes (Some (renamed_value old.now new.now (value_seen value.now)))) }
+        ++ initializer_bytes (Some (renamed_initializer old.now new.now
+        (initializer_seen initializer.now)))) }
 {
-    out.extend(value.before)?;
+    out.extend(initializer.before)?;
     out.extend(b"=")?;
-    out.extend(value.gap)?;
-    out.extend(renamed(value.name, old, new))
+    out.extend(initializer.gap)?;
+    out.extend(renamed(initializer.name, old, new))
 }
 
 fn write_field(
@@ -168,8 +169,8 @@ fn write_field(
     out.extend(b"int")?;
     out.extend(field.gap)?;
     out.extend(renamed(field.name, old, new))?;
-    if let Some(value) = &field.value {
-        write_value(out, value, old, new)?;
+    if let Some(initializer) = &field.initializer {
+        write_initializer(out, initializer, old, new)?;
     }
     out.extend(field.after)?;
     out.extend(b";")
@@ -208,7 +209,7 @@ pub(crate) fn write_renamed(
     out.extend(class.opening)?;
     out.extend(b"{")?;
     write_fields(&mut out, class.fields.as_slice(), old, new)?;
-    out.extend(class.closing)?;
+    out.extend(class.last_gap)?;
     out.extend(b"}")?;
     out.extend(class.tail)?;
     Ok(out)

@@ -1,8 +1,8 @@
 ghost use Rattle.std.specs.Prelude.{◌≡◌, option_map, codes};
-ghost use Rattle.rf_engine.specs.ClassReader.{before_word, gap_of, parted_name, value_of, field_of};
-ghost use Rattle.rf_engine.specs.Seen.{cut_seen, name_cut_seen, value_cut_seen, field_cut_seen};
+ghost use Rattle.rf_engine.specs.ClassReader.{before_word, gap_of, parted_name, initializer_of, field_of};
+ghost use Rattle.rf_engine.specs.Seen.{cut_seen, name_cut_seen, initializer_cut_seen, field_cut_seen};
 
-use crate::class_file::{FieldParts, ValueParts};
+use crate::class_file::{FieldParts, InitializerParts};
 use crate::scan::{Cut, after, blanks, name};
 
 /// A name with the gap before it, and the rest of the text behind it.
@@ -22,8 +22,8 @@ pub(crate) struct FieldCut<'a> {
 
 /// The initializer of a field, if it has one, and the rest of the text behind it.
 #[derive(Clone, Copy, Debug)]
-struct ValueCut<'a> {
-    value: Option<ValueParts<'a>>,
+struct InitializerCut<'a> {
+    initializer: Option<InitializerParts<'a>>,
     rest: &'a [u8],
 }
 
@@ -66,25 +66,25 @@ pub(crate) fn parted_name(text: &[u8]) -> Option<NameCut<'_>>
     })
 }
 
-#[tactic(auto, using(crate::proofs::PieceLemmas::scans), unfolding(crate::specs::ClassReader::value_of, crate::specs::ClassReader::value_behind))]
-fn read_value(text: &[u8]) -> Option<ValueCut<'_>>
-    ensures { option_map value_cut_seen result ≡ value_of text.now }
+#[tactic(auto, using(crate::proofs::PieceLemmas::scans), unfolding(crate::specs::ClassReader::initializer_of, crate::specs::ClassReader::initializer_behind))]
+fn read_initializer(text: &[u8]) -> Option<InitializerCut<'_>>
+    ensures { option_map initializer_cut_seen result ≡ initializer_of text.now }
 {
     let Some(equals) = before_word(text, b"=") else {
-        return Some(ValueCut {
-            value: None,
+        return Some(InitializerCut {
+            initializer: None,
             rest: text,
         });
     };
     let gap = blanks(equals.rest);
     let name = name(gap.rest)?;
-    let value = ValueParts {
+    let initializer = InitializerParts {
         before: equals.front,
         gap: gap.front,
         name: name.front,
     };
-    Some(ValueCut {
-        value: Some(value),
+    Some(InitializerCut {
+        initializer: Some(initializer),
         rest: name.rest,
     })
 }
@@ -96,13 +96,13 @@ pub(crate) fn read_field(text: &[u8]) -> Option<FieldCut<'_>>
 {
     let int = before_word(text, b"int")?;
     let name = parted_name(int.rest)?;
-    let value = read_value(name.rest)?;
-    let end = before_word(value.rest, b";")?;
+    let initializer = read_initializer(name.rest)?;
+    let end = before_word(initializer.rest, b";")?;
     let field = FieldParts {
         before: int.front,
         gap: name.gap,
         name: name.name,
-        value: value.value,
+        initializer: initializer.initializer,
         after: end.front,
     };
     Some(FieldCut {

@@ -35,8 +35,8 @@ pub(crate) fn is_declared(names: &Names, name: &[u8]) -> bool
 fn is_bound(names: &Names, field: &FieldParts<'_>) -> bool
     ensures { IsTrue result ↔ IsBound names.now field.now }
 {
-    match field.value {
-        Some(value) => is_declared(names, value.name),
+    match field.initializer {
+        Some(initializer) => is_declared(names, initializer.name),
         None => true,
     }
 }

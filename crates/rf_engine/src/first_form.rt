@@ -1,13 +1,13 @@
 ghost use Rattle.std.specs.Prelude.{◌≡◌, IfOk};
 ghost use Rattle.rf_engine.specs.ClassFile.{class_bytes, names_of};
 ghost use Rattle.rf_engine.specs.FirstForm.{answer_of, IsAnswer};
-ghost use Rattle.rf_engine.specs.Form.{form_seen};
+ghost use Rattle.rf_engine.specs.FirstParts.{form_seen};
 ghost use Rattle.rf_engine.specs.Seen.{class_seen};
 
 use crate::class_file::write_renamed;
 use crate::field_names::is_declared;
-use crate::form::{FormParts, read_form};
-use crate::report::{name_taken, nothing_changed, one_changed};
+use crate::first_parts::{FirstFormParts, read_first_form};
+use crate::report::{name_in_use, nothing_changed, one_changed};
 use crate::request::RequestParts;
 use rf_text::{Bytes, Memory};
 use std::alloc::Global;
@@ -24,7 +24,7 @@ pub enum FirstPath {
 }
 
 /// Answers what was read from the bytes of `file` and from a request.
-fn answer(alloc: Global, file: &[u8], form: &FormParts<'_>) -> Result<FirstPath, Memory>
+fn answer(alloc: Global, file: &[u8], form: &FirstFormParts<'_>) -> Result<FirstPath, Memory>
     requires bytes { file.now ≡ class_bytes (class_seen form.now.file.class) }
     requires names { form.now.file.names ≡ names_of (class_seen form.now.file.class) }
     ensures { IfOk result (λ answer. answer ≡ answer_of (form_seen form.now)) }
@@ -36,7 +36,7 @@ fn answer(alloc: Global, file: &[u8], form: &FormParts<'_>) -> Result<FirstPath,
         return Ok(FirstPath::Changed { bytes, report });
     }
     if is_declared(&form.file.names, new) {
-        let report = name_taken(alloc, form)?;
+        let report = name_in_use(alloc, form)?;
         return Ok(FirstPath::Refused { report });
     }
     let bytes = write_renamed(alloc, &form.file.class, old, new)?;
@@ -54,7 +54,7 @@ pub fn first_path(
 ) -> Result<FirstPath, Memory>
     ensures { IfOk result (IsAnswer path.now file.now request.now) }
 {
-    match read_form(alloc, path, file, request)? {
+    match read_first_form(alloc, path, file, request)? {
         Some(form) => answer(alloc, file, &form),
         None => Ok(FirstPath::NotYet),
     }

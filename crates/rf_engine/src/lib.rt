@@ -5,7 +5,7 @@ mod class_file;
 mod field;
 mod field_names;
 mod first_form;
-mod form;
+mod first_parts;
 mod report;
 mod request;
 mod scan;

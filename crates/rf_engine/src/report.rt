@@ -1,9 +1,9 @@
 ghost use Rattle.std.specs.Prelude.{◌≡◌, IfOk};
 ghost use Rattle.std.specs.List.{flat_map};
-ghost use Rattle.rf_engine.specs.FirstForm.{nothing_changed, one_changed, name_taken};
-ghost use Rattle.rf_engine.specs.Form.{form_seen};
+ghost use Rattle.rf_engine.specs.FirstForm.{nothing_changed, one_changed, name_in_use};
+ghost use Rattle.rf_engine.specs.FirstParts.{form_seen};
 
-use crate::form::FormParts;
+use crate::first_parts::FirstFormParts;
 use crate::request::RequestParts;
 use rf_text::{Bytes, Memory};
 use std::alloc::Global;
@@ -27,7 +27,7 @@ pub(crate) fn nothing_changed(alloc: Global) -> Result<Bytes, Memory>
 }
 
 /// The lines for a field that has got its new name.
-pub(crate) fn one_changed(alloc: Global, form: &FormParts<'_>) -> Result<Bytes, Memory>
+pub(crate) fn one_changed(alloc: Global, form: &FirstFormParts<'_>) -> Result<Bytes, Memory>
     ensures { IfOk result (λ text. text ≡ one_changed (form_seen form.now)) }
 {
     let class = form.file.class.name;
@@ -48,9 +48,9 @@ pub(crate) fn one_changed(alloc: Global, form: &FormParts<'_>) -> Result<Bytes, 
     )
 }
 
-/// The line for a new name that is taken by another field.
-pub(crate) fn name_taken(alloc: Global, form: &FormParts<'_>) -> Result<Bytes, Memory>
-    ensures { IfOk result (λ text. text ≡ name_taken (form_seen form.now)) }
+/// The line for a new name that is in use by another field.
+pub(crate) fn name_in_use(alloc: Global, form: &FirstFormParts<'_>) -> Result<Bytes, Memory>
+    ensures { IfOk result (λ text. text ≡ name_in_use (form_seen form.now)) }
 {
     let class = form.file.class.name;
     let RequestParts { old, new } = form.request;

@@ -28,7 +28,8 @@ impl Model for Column {
 
 /// Makes room for the value in the list of last places.
 fn grow(last: &mut Vec<Option<u32>>, value: u32) -> Result<(), Memory>
-    ensures kept { (v : ℕ) → slice_index_or last.new.items v None ≡ slice_index_or last.old.items v None }
+    ensures kept { (v : ℕ) → slice_index_or last.new.items v None
+        ≡ slice_index_or last.old.items v None }
     ensures room { OnOk result (value < length last.new.items) }
 {
     let wanted = value as usize + 1;

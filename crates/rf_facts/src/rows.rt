@@ -20,7 +20,8 @@ impl Model for Rows {
 
     ghost view = { λ rows. pieces rows.width rows.count rows.cells.items };
 
-    ghost invariant = { λ rows. (length rows.cells.items ≡ rows.count * rows.width) × (rows.count < 2 ^ 32) };
+    ghost invariant = { λ rows. (length rows.cells.items ≡ rows.count * rows.width)
+        × (rows.count < 2 ^ 32) };
 }
 
 impl Rows {

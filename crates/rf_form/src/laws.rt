@@ -9,7 +9,8 @@ ghost use Rattle.rf_form.specs.Truths.{row, truth, Is};
 
 /// The canonical search of a list of formulas has an answer and a need, from every family of places on.
 pub fn each_family_has_a_need()
-    ensures { (vals : List (List ℕ)) (fs : List Formula) (δ : Family) → Fits (problem_of vals fs) δ →
+    ensures { (vals : List (List ℕ)) (fs : List Formula) (δ : Family)
+        → Fits (problem_of vals fs) δ →
         HasCanon (problem_of vals fs) δ }
 {}
 
@@ -24,7 +25,8 @@ pub fn need_is_one()
 pub fn stays_in_parts()
     ensures { (n : ℕ) (places : ℕ → ℕ) (vals : List (List ℕ)) (part whole : Family)
         (f : Formula) (b : Bool) →
-        Part part whole → Filled n part → Within n places whole → Is vals whole f b → Is vals part f b }
+        Part part whole → Filled n part → Within n places whole
+        → Is vals whole f b → Is vals part f b }
 {}
 
 /// No formula is both true and false.

@@ -13,13 +13,15 @@ ghost use Rattle.rf_inst.specs.Stands.{first};
 
 /// The canonical search of an instance has an answer and a need, from every family of places on.
 pub fn each_instance_has_a_need()
-    ensures { (i : Inst) (δ : Family) → Fits (problem i.vals i.cons) δ → HasCanon (problem i.vals i.cons) δ }
+    ensures { (i : Inst) (δ : Family) → Fits (problem i.vals i.cons) δ
+        → HasCanon (problem i.vals i.cons) δ }
 {}
 
 /// The answer and the need of an instance are one alone.
 pub fn an_instance_has_one_need()
     ensures { (i : Inst) (δ : Family) (o p : Option (List ℕ)) (n m : ℕ) →
-        Canon (problem i.vals i.cons) δ o n → Canon (problem i.vals i.cons) δ p m → (o ≡ p) × (n ≡ m) }
+        Canon (problem i.vals i.cons) δ o n → Canon (problem i.vals i.cons) δ p m
+        → (o ≡ p) × (n ≡ m) }
 {}
 
 /// In a part of the first domains in which none is empty, a constraint is false exactly where the direct form of a pair is:

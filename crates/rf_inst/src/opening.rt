@@ -45,7 +45,8 @@ fn place_of(alloc: Global, value: u32, values: &[u32]) -> Result<List<u16>, Memo
 /// The domain of a variable, which has the forced value alone where it is the first one.
 fn domain(alloc: Global, x: usize, forced: u32, values: &[u32]) -> Result<List<u16>, Memory>
     requires { length values.now ≤ 65536 }
-    ensures { IfOk result (λ places. places ≡ cond (eqb x 0) (places_of forced values.now) (all_places values.now)) }
+    ensures { IfOk result (λ places. places
+        ≡ cond (eqb x 0) (places_of forced values.now) (all_places values.now)) }
 {
     if x == 0 {
         return place_of(alloc, forced, values);

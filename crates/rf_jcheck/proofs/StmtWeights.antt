@@ -1,6 +1,6 @@
 -- How large a statement is: more than all its parts together. A check of a statement goes to lighter parts.
 use Rattle.std.proofs.Common.{ℕ, ◌+◌}
-use Rattle.rf_jtree.specs.StmtTrees.{StmtTree, Block, Empty, Label, Value, If, While, Do, For, Each, Switch, Jump, Return, Throw, Sync, Assert, Try}
+use Rattle.rf_jtree.specs.StmtTrees.{StmtTree, Block, Empty, Label, Expression, If, While, Do, For, Each, Switch, Jump, Return, Throw, Sync, Assert, Try}
 use Rattle.rf_jtree.specs.StmtTrees.{BlockTree, Braces, StmtsTree, NoStmts, Stmts, OtherTree, NoOther, Other, GroupTree, Group, GroupsTree, NoGroups, Groups, CatchTree, Catch, CatchesTree, NoCatches, Catches, LastTree, NoLast, Last}
 
 abbrev mutual
@@ -9,16 +9,16 @@ abbrev mutual
   stmt_weight (Empty semi) = 1
   stmt_weight (StmtTree.Local local semi) = 1
   stmt_weight (Label id colon body) = 1 + stmt_weight body
-  stmt_weight (Value value semi) = 1
+  stmt_weight (Expression expression semi) = 1
   stmt_weight (If word left test right then other) = 1 + (stmt_weight then + other_weight other)
   stmt_weight (While word left test right body) = 1 + stmt_weight body
   stmt_weight (Do word body until left test right semi) = 1 + stmt_weight body
   stmt_weight (For word left first semi1 test semi2 last right body) = 1 + stmt_weight body
-  stmt_weight (Each word left mods sort id colon over right body) = 1 + stmt_weight body
+  stmt_weight (Each word left mods used_type id colon over right body) = 1 + stmt_weight body
   stmt_weight (Switch word left on right brace groups end) = 1 + groups_weight groups
   stmt_weight (Jump word label semi) = 1
-  stmt_weight (Return word value semi) = 1
-  stmt_weight (Throw word value semi) = 1
+  stmt_weight (Return word expression semi) = 1
+  stmt_weight (Throw word expression semi) = 1
   stmt_weight (Sync word left on right body) = 1 + block_weight body
   stmt_weight (Assert word test message semi) = 1
   stmt_weight (Try word body catches last) = 1 + (block_weight body + (catches_weight catches + last_weight last))
@@ -35,7 +35,7 @@ abbrev mutual
   other_weight (Other word stmt) = 1 + stmt_weight stmt
 
   pub group_weight : GroupTree → ℕ
-  group_weight (Group word value colon body) = 1 + stmts_weight body
+  group_weight (Group word expression colon body) = 1 + stmts_weight body
 
   pub groups_weight : GroupsTree → ℕ
   groups_weight NoGroups = 1

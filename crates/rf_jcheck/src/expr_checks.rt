@@ -24,7 +24,9 @@ pub fn expr_fits(expr: &Expr) -> bool
     ensures { IsTrue result ↔ ExprFits (expr_shown expr.now) }
 {
     match expr {
-        Expr::Assign(left, op, value) => is_assign(left, op) && expr_fits(left) && expr_fits(value),
+        Expr::Assign(left, op, operand) => is_assign(left, op)
+            && expr_fits(left)
+            && expr_fits(operand),
         Expr::Cond(test, mark, then, colon, other) => {
             is_cond(test, mark, colon, other)
                 && expr_fits(test)
@@ -34,20 +36,20 @@ pub fn expr_fits(expr: &Expr) -> bool
         Expr::Binary(left, op, right) => is_binary(left, op, right)
             && expr_fits(left)
             && expr_fits(right),
-        Expr::Instance(value, word, sort) => is_instance(value, word)
-            && expr_fits(value)
-            && type_fits(sort),
-        Expr::Unary(op, value) => is_unary(op, value) && expr_fits(value),
-        Expr::Cast(left, sort, right, value) => {
-            is_cast(left, sort, right, value) && type_fits(sort) && expr_fits(value)
+        Expr::Instance(operand, word, used_type) => is_instance(operand, word)
+            && expr_fits(operand)
+            && type_fits(used_type),
+        Expr::Unary(op, operand) => is_unary(op, operand) && expr_fits(operand),
+        Expr::Cast(left, used_type, right, operand) => {
+            is_cast(left, used_type, right, operand) && type_fits(used_type) && expr_fits(operand)
         }
-        Expr::Postfix(value, op) => is_postfix(value, op) && expr_fits(value),
+        Expr::Postfix(operand, op) => is_postfix(operand, op) && expr_fits(operand),
         Expr::Lit(tok) => is_literal(tok),
         Expr::This(tok) => is_key(tok, THIS),
-        Expr::Paren(left, value, right) => are_parens(left, right) && expr_fits(value),
+        Expr::Paren(left, operand, right) => are_parens(left, right) && expr_fits(operand),
         Expr::Name(name) => name_fits(name),
         Expr::Call { on, id, args } => on_fits(on) && is_ident(id) && args_fit(args),
-        Expr::Field(value, dot, id) => is_field(value, dot, id) && expr_fits(value),
+        Expr::Field(operand, dot, id) => is_field(operand, dot, id) && expr_fits(operand),
         Expr::Super {
             word,
             dot,
@@ -55,8 +57,8 @@ pub fn expr_fits(expr: &Expr) -> bool
             args,
         } => is_super(word, dot, id) && super_args_fit(args),
         Expr::New(word, name, args) => is_key(word, NEW) && name_fits(name) && args_fit(args),
-        Expr::Index(value, left, index, right) => {
-            is_index(value, left, right) && expr_fits(value) && expr_fits(index)
+        Expr::Index(operand, left, index, right) => {
+            is_index(operand, left, right) && expr_fits(operand) && expr_fits(index)
         }
         Expr::NewArray {
             word,
@@ -177,7 +179,7 @@ pub fn init_fits(init: &Init) -> bool
     ensures { IsTrue result ↔ InitFits (init_shown init.now) }
 {
     match init {
-        Init::Value(value) => expr_fits(value),
+        Init::Expression(operand) => expr_fits(operand),
         Init::Braced(braces) => braces_fit(braces),
     }
 }

@@ -40,16 +40,16 @@ pub(crate) fn is_binary(left: &Expr, op: &Tok, right: &Expr) -> bool
     OR_OR_LEVEL <= level && binds_at(level, left) && level < expr_level(right)
 }
 
-pub(crate) fn is_instance(value: &Expr, word: &Tok) -> bool
-    ensures { IsTrue result ↔ IsInstance (expr_shown value.now) word.now }
+pub(crate) fn is_instance(operand: &Expr, word: &Tok) -> bool
+    ensures { IsTrue result ↔ IsInstance (expr_shown operand.now) word.now }
 {
-    binds_at(COMPARISON_LEVEL, value) && is_key(word, INSTANCEOF)
+    binds_at(COMPARISON_LEVEL, operand) && is_key(word, INSTANCEOF)
 }
 
-pub(crate) fn is_unary(op: &Tok, value: &Expr) -> bool
-    ensures { IsTrue result ↔ IsUnary op.now (expr_shown value.now) }
+pub(crate) fn is_unary(op: &Tok, operand: &Expr) -> bool
+    ensures { IsTrue result ↔ IsUnary op.now (expr_shown operand.now) }
 {
-    is_op_of(op, &PREFIXES) && binds_at(UNARY_LEVEL, value)
+    is_op_of(op, &PREFIXES) && binds_at(UNARY_LEVEL, operand)
 }
 
 #[tactic(auto, using(rf_jfit::proofs::ExprFirstLemmas::BeginsOperand_yield))]
@@ -59,12 +59,13 @@ fn begins_with_operand(expr: &Expr) -> bool
     begins_operand(expr_first(expr))
 }
 
-fn cast_takes(sort: &TypeUse, operand: &Expr) -> bool
-    ensures { IsTrue result ↔ CastTakes (type_shown sort.now).base (type_shown sort.now).dims.list
+fn cast_takes(used_type: &TypeUse, operand: &Expr) -> bool
+    ensures { IsTrue result
+        ↔ CastTakes (type_shown used_type.now).base (type_shown used_type.now).dims.list
         (expr_yield (expr_shown operand.now)) }
 {
-    match &sort.base {
-        TypeBase::Prim(_) => match sort.dims.list.as_slice() {
+    match &used_type.base {
+        TypeBase::Prim(_) => match used_type.dims.list.as_slice() {
             [] => true,
             [_, ..] => begins_with_operand(operand),
         },
@@ -72,29 +73,29 @@ fn cast_takes(sort: &TypeUse, operand: &Expr) -> bool
     }
 }
 
-pub(crate) fn is_cast(left: &Tok, sort: &TypeUse, right: &Tok, value: &Expr) -> bool
-    ensures { IsTrue result ↔ IsCast left.now (type_shown sort.now) right.now
-        (expr_shown value.now) }
+pub(crate) fn is_cast(left: &Tok, used_type: &TypeUse, right: &Tok, operand: &Expr) -> bool
+    ensures { IsTrue result ↔ IsCast left.now (type_shown used_type.now) right.now
+        (expr_shown operand.now) }
 {
-    are_parens(left, right) && binds_at(UNARY_LEVEL, value) && cast_takes(sort, value)
+    are_parens(left, right) && binds_at(UNARY_LEVEL, operand) && cast_takes(used_type, operand)
 }
 
-pub(crate) fn is_postfix(value: &Expr, op: &Tok) -> bool
-    ensures { IsTrue result ↔ IsPostfix (expr_shown value.now) op.now }
+pub(crate) fn is_postfix(operand: &Expr, op: &Tok) -> bool
+    ensures { IsTrue result ↔ IsPostfix (expr_shown operand.now) op.now }
 {
-    binds_at(POSTFIX_LEVEL, value) && is_op_of(op, &SUFFIXES)
+    binds_at(POSTFIX_LEVEL, operand) && is_op_of(op, &SUFFIXES)
 }
 
-pub(crate) fn is_on(value: &Expr, dot: &Tok) -> bool
-    ensures { IsTrue result ↔ IsOn (expr_shown value.now) dot.now }
+pub(crate) fn is_on(operand: &Expr, dot: &Tok) -> bool
+    ensures { IsTrue result ↔ IsOn (expr_shown operand.now) dot.now }
 {
-    binds_at(PRIMARY_LEVEL, value) && is_op(dot, DOT)
+    binds_at(PRIMARY_LEVEL, operand) && is_op(dot, DOT)
 }
 
-pub(crate) fn is_field(value: &Expr, dot: &Tok, id: &Tok) -> bool
-    ensures { IsTrue result ↔ IsField (expr_shown value.now) dot.now id.now }
+pub(crate) fn is_field(operand: &Expr, dot: &Tok, id: &Tok) -> bool
+    ensures { IsTrue result ↔ IsField (expr_shown operand.now) dot.now id.now }
 {
-    binds_at(PRIMARY_LEVEL, value) && is_no_name(value) && is_op(dot, DOT) && is_ident(id)
+    binds_at(PRIMARY_LEVEL, operand) && is_no_name(operand) && is_op(dot, DOT) && is_ident(id)
 }
 
 pub(crate) fn is_super(word: &Tok, dot: &Tok, id: &Tok) -> bool
@@ -103,8 +104,8 @@ pub(crate) fn is_super(word: &Tok, dot: &Tok, id: &Tok) -> bool
     is_key(word, SUPER) && is_op(dot, DOT) && is_ident(id)
 }
 
-pub(crate) fn is_index(value: &Expr, left: &Tok, right: &Tok) -> bool
-    ensures { IsTrue result ↔ IsIndex (expr_shown value.now) left.now right.now }
+pub(crate) fn is_index(operand: &Expr, left: &Tok, right: &Tok) -> bool
+    ensures { IsTrue result ↔ IsIndex (expr_shown operand.now) left.now right.now }
 {
-    binds_at(PRIMARY_LEVEL, value) && is_no_new_array(value) && are_brackets(left, right)
+    binds_at(PRIMARY_LEVEL, operand) && is_no_new_array(operand) && are_brackets(left, right)
 }

@@ -64,7 +64,7 @@ fn ret_fits(ret: &Ret) -> bool
 {
     match ret {
         Ret::Void(word) => is_key(word, VOID),
-        Ret::Value(sort) => type_fits(sort),
+        Ret::Typed(used_type) => type_fits(used_type),
     }
 }
 
@@ -132,9 +132,9 @@ pub fn member_fits(member: &Member) -> bool
         }
         Member::Field {
             mods,
-            sort,
+            used_type,
             vars,
             semi,
-        } => mods_fit(mods) && type_fits(sort) && vars_fit(vars) && is_op(semi, SEMICOLON),
+        } => mods_fit(mods) && type_fits(used_type) && vars_fit(vars) && is_op(semi, SEMICOLON),
     }
 }

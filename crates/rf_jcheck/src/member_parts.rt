@@ -69,7 +69,7 @@ fn param_fits(param: &Param) -> bool
     ensures { IsTrue result ↔ ParamFits (param_shown param.now) }
 {
     variable_mods_fit(&param.mods)
-        && type_fits(&param.sort)
+        && type_fits(&param.used_type)
         && is_ident(&param.id)
         && dims_fit(&param.dims)
 }

@@ -71,8 +71,8 @@ pub fn base_fits(base: &TypeBase) -> bool
 }
 
 /// Whether the use of a type fits.
-pub fn type_fits(sort: &TypeUse) -> bool
-    ensures { IsTrue result ↔ TypeFits (type_shown sort.now) }
+pub fn type_fits(used_type: &TypeUse) -> bool
+    ensures { IsTrue result ↔ TypeFits (type_shown used_type.now) }
 {
-    base_fits(&sort.base) && dims_fit(&sort.dims)
+    base_fits(&used_type.base) && dims_fit(&used_type.dims)
 }

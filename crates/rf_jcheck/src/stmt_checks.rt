@@ -8,8 +8,8 @@ ghost use Rattle.rf_jtree.specs.StmtShown.{optional_expr_shown, message_shown, s
 use crate::expr_checks::{expr_fits, exprs_fit};
 use crate::name_checks::{are_braces, name_fits, type_fits};
 use crate::stmt_form_checks::{
-    is_catch, is_do, is_each, is_exit, is_for, is_group_word, is_head, is_if, is_jump, is_label,
-    is_switch, is_try, is_value, is_while,
+    is_catch, is_do, is_each, is_exit, is_expression_stmt, is_for, is_group_word, is_head, is_if,
+    is_jump, is_label, is_switch, is_try, is_while,
 };
 use crate::variable_checks::{first_fits, local_fits};
 use rf_jfit::{is_key, is_no_local, is_op};
@@ -45,22 +45,23 @@ pub fn stmt_fits(stmt: &Stmt) -> bool
         Stmt::Empty(semi) => is_op(semi, SEMICOLON),
         Stmt::Local(local, semi) => local_fits(local) && is_op(semi, SEMICOLON),
         Stmt::Label(id, colon, body) => is_label(id, colon, body) && stmt_fits(body),
-        Stmt::Value(value, semi) => is_value(value, semi) && expr_fits(value),
+        Stmt::Expression(expression, semi) => is_expression_stmt(expression, semi)
+            && expr_fits(expression),
         Stmt::If { head, then, other } => {
             is_if(head, then, other)
-                && expr_fits(&head.value)
+                && expr_fits(&head.expression)
                 && stmt_fits(then)
                 && other_fits(other)
         }
         Stmt::While { head, body } => {
-            is_while(head, body) && expr_fits(&head.value) && stmt_fits(body)
+            is_while(head, body) && expr_fits(&head.expression) && stmt_fits(body)
         }
         Stmt::Do {
             word,
             body,
             until,
             semi,
-        } => is_do(word, body, until, semi) && stmt_fits(body) && expr_fits(&until.value),
+        } => is_do(word, body, until, semi) && stmt_fits(body) && expr_fits(&until.expression),
         Stmt::For { head, body } => {
             is_for(head, body)
                 && first_fits(&head.first)
@@ -69,7 +70,10 @@ pub fn stmt_fits(stmt: &Stmt) -> bool
                 && stmt_fits(body)
         }
         Stmt::Each { head, body } => {
-            is_each(head, body) && type_fits(&head.sort) && expr_fits(&head.over) && stmt_fits(body)
+            is_each(head, body)
+                && type_fits(&head.used_type)
+                && expr_fits(&head.over)
+                && stmt_fits(body)
         }
         Stmt::Switch {
             head,
@@ -77,14 +81,17 @@ pub fn stmt_fits(stmt: &Stmt) -> bool
             groups,
             end,
         } => {
-            is_switch(head, brace, end) && expr_fits(&head.value) && groups_fit(groups.as_slice())
+            is_switch(head, brace, end)
+                && expr_fits(&head.expression)
+                && groups_fit(groups.as_slice())
         }
         Stmt::Jump(word, label, semi) => is_jump(word, label, semi),
-        Stmt::Return(word, value, semi) => is_exit(RETURN, word, semi) && expr_fits_or_none(value),
-        Stmt::Throw(word, value, semi) => is_exit(THROW, word, semi) && expr_fits(value),
+        Stmt::Return(word, expression, semi) => is_exit(RETURN, word, semi)
+            && expr_fits_or_none(expression),
+        Stmt::Throw(word, expression, semi) => is_exit(THROW, word, semi) && expr_fits(expression),
         Stmt::Sync { head, body } => {
             is_head(SYNCHRONIZED, &head.word, &head.left, &head.right)
-                && expr_fits(&head.value)
+                && expr_fits(&head.expression)
                 && block_fits(body)
         }
         Stmt::Assert(word, test, message, semi) => {
@@ -139,8 +146,8 @@ fn other_fits(other: &Option<(Tok, Box<Stmt>)>) -> bool
 fn group_fits(group: &Group) -> bool
     ensures { IsTrue result ↔ GroupFits (group_shown group.now) }
 {
-    is_group_word(&group.word, &group.value)
-        && expr_fits_or_none(&group.value)
+    is_group_word(&group.word, &group.expression)
+        && expr_fits_or_none(&group.expression)
         && is_op(&group.colon, COLON)
         && stmts_fit(group.body.as_slice())
 }

@@ -2,7 +2,7 @@ ghost use Rattle.std.specs.Prelude.{◌↔◌, ◌⊎◌, IsTrue, IfSome};
 ghost use Rattle.rf_jtree.specs.ExprShown.{expr_shown, exprs_shown};
 ghost use Rattle.rf_jtree.specs.Kinds.{IsKey, IsIdent};
 ghost use Rattle.rf_jtree.specs.NameShown.{mods_shown};
-ghost use Rattle.rf_jtree.specs.StmtFits.{IsHead, IsLabel, IsValue, IsIf, IsWhile, IsDo, IsFor, IsEach, IsSwitch, IsGroupWord, IsJump, IsExit, IsCatch, IsTry};
+ghost use Rattle.rf_jtree.specs.StmtFits.{IsHead, IsLabel, IsExpressionStmt, IsIf, IsWhile, IsDo, IsFor, IsEach, IsSwitch, IsGroupWord, IsJump, IsExit, IsCatch, IsTry};
 ghost use Rattle.rf_jtree.specs.StmtShown.{optional_expr_shown, stmt_shown, other_shown, catches_shown, last_shown};
 
 use crate::name_checks::{are_braces, are_parens};
@@ -29,10 +29,10 @@ pub(crate) fn is_label(id: &Tok, colon: &Tok, body: &Stmt) -> bool
     is_ident(id) && is_op(colon, COLON) && is_no_local(body)
 }
 
-pub(crate) fn is_value(value: &Expr, semi: &Tok) -> bool
-    ensures { IsTrue result ↔ IsValue (expr_shown value.now) semi.now }
+pub(crate) fn is_expression_stmt(expression: &Expr, semi: &Tok) -> bool
+    ensures { IsTrue result ↔ IsExpressionStmt (expr_shown expression.now) semi.now }
 {
-    is_statement_expr(value) && is_op(semi, SEMICOLON)
+    is_statement_expr(expression) && is_op(semi, SEMICOLON)
 }
 
 pub(crate) fn is_if(head: &Head, then: &Stmt, other: &Option<(Tok, Box<Stmt>)>) -> bool
@@ -90,10 +90,10 @@ pub(crate) fn is_switch(head: &Head, brace: &Tok, end: &Tok) -> bool
     is_head(SWITCH, &head.word, &head.left, &head.right) && are_braces(brace, end)
 }
 
-pub(crate) fn is_group_word(word: &Tok, value: &Option<Box<Expr>>) -> bool
-    ensures { IsTrue result ↔ IsGroupWord word.now (optional_expr_shown value.now) }
+pub(crate) fn is_group_word(word: &Tok, expression: &Option<Box<Expr>>) -> bool
+    ensures { IsTrue result ↔ IsGroupWord word.now (optional_expr_shown expression.now) }
 {
-    match value {
+    match expression {
         None => is_key(word, DEFAULT),
         Some(_) => is_key(word, CASE),
     }

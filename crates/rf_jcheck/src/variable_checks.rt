@@ -67,7 +67,7 @@ pub(crate) fn vars_fit(vars: &Many<Var>) -> bool
 pub fn local_fits(local: &Local) -> bool
     ensures { IsTrue result ↔ LocalFits (local_shown local.now) }
 {
-    variable_mods_fit(&local.mods) && type_fits(&local.sort) && vars_fit(&local.vars)
+    variable_mods_fit(&local.mods) && type_fits(&local.used_type) && vars_fit(&local.vars)
 }
 
 /// Whether what a basic `for` begins with fits.

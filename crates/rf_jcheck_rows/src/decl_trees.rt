@@ -18,7 +18,7 @@ impl<'a, R: Abort + AllocGlobal> Trees<'a, R> {
     }
 
     pub(crate) fn begins(&self) -> Option<(Tok, Init)> {
-        Some((self.tok("="), Init::Value(self.lit())))
+        Some((self.tok("="), Init::Expression(self.lit())))
     }
 
     pub(crate) fn int(&self) -> TypeUse {
@@ -28,7 +28,7 @@ impl<'a, R: Abort + AllocGlobal> Trees<'a, R> {
     pub(crate) fn member_field(&self, mods: List<Mod>, init: Option<(Tok, Init)>) -> Box<Member> {
         self.boxed(Member::Field {
             mods,
-            sort: self.int(),
+            used_type: self.int(),
             vars: self.only(self.var(init)),
             semi: self.tok(";"),
         })
@@ -46,7 +46,7 @@ impl<'a, R: Abort + AllocGlobal> Trees<'a, R> {
     pub(crate) fn params(&self, mods: List<Mod>) -> Params {
         let param = Param {
             mods,
-            sort: self.int(),
+            used_type: self.int(),
             id: self.tok("b"),
             dims: self.no_dims(),
         };

@@ -111,8 +111,8 @@ impl<'a, R: Abort + AllocGlobal> Trees<'a, R> {
         self.boxed(Expr::Binary(left, self.tok(op), right))
     }
 
-    pub(crate) fn assign(&self, left: Box<Expr>, value: Box<Expr>) -> Box<Expr> {
-        self.boxed(Expr::Assign(left, self.tok("="), value))
+    pub(crate) fn assign(&self, left: Box<Expr>, operand: Box<Expr>) -> Box<Expr> {
+        self.boxed(Expr::Assign(left, self.tok("="), operand))
     }
 
     pub(crate) fn cond(&self, test: Box<Expr>, then: Box<Expr>, other: Box<Expr>) -> Box<Expr> {
@@ -135,25 +135,25 @@ impl<'a, R: Abort + AllocGlobal> Trees<'a, R> {
         self.cond(self.name("b"), self.name("c"), self.name("d"))
     }
 
-    pub(crate) fn unary(&self, op: &str, value: Box<Expr>) -> Box<Expr> {
-        self.boxed(Expr::Unary(self.tok(op), value))
+    pub(crate) fn unary(&self, op: &str, operand: Box<Expr>) -> Box<Expr> {
+        self.boxed(Expr::Unary(self.tok(op), operand))
     }
 
-    pub(crate) fn postfix(&self, value: Box<Expr>) -> Box<Expr> {
-        self.boxed(Expr::Postfix(value, self.tok("++")))
+    pub(crate) fn postfix(&self, operand: Box<Expr>) -> Box<Expr> {
+        self.boxed(Expr::Postfix(operand, self.tok("++")))
     }
 
-    pub(crate) fn cast(&self, sort: TypeUse, value: Box<Expr>) -> Box<Expr> {
+    pub(crate) fn cast(&self, used_type: TypeUse, operand: Box<Expr>) -> Box<Expr> {
         self.boxed(Expr::Cast(
             self.tok("("),
-            self.boxed(sort),
+            self.boxed(used_type),
             self.boxed(self.tok(")")),
-            value,
+            operand,
         ))
     }
 
-    pub(crate) fn paren(&self, value: Box<Expr>) -> Box<Expr> {
-        self.boxed(Expr::Paren(self.tok("("), value, self.boxed(self.tok(")"))))
+    pub(crate) fn paren(&self, operand: Box<Expr>) -> Box<Expr> {
+        self.boxed(Expr::Paren(self.tok("("), operand, self.boxed(self.tok(")"))))
     }
 
     pub(crate) fn args(&self) -> Box<Args> {
@@ -172,12 +172,17 @@ impl<'a, R: Abort + AllocGlobal> Trees<'a, R> {
         })
     }
 
-    pub(crate) fn field(&self, value: Box<Expr>) -> Box<Expr> {
-        self.boxed(Expr::Field(value, self.boxed(self.tok(".")), self.tok("x")))
+    pub(crate) fn field(&self, operand: Box<Expr>) -> Box<Expr> {
+        self.boxed(Expr::Field(operand, self.boxed(self.tok(".")), self.tok("x")))
     }
 
-    pub(crate) fn index(&self, value: Box<Expr>) -> Box<Expr> {
-        self.boxed(Expr::Index(value, self.tok("["), self.lit(), self.boxed(self.tok("]"))))
+    pub(crate) fn index(&self, operand: Box<Expr>) -> Box<Expr> {
+        self.boxed(Expr::Index(
+            operand,
+            self.tok("["),
+            self.lit(),
+            self.boxed(self.tok("]")),
+        ))
     }
 
     /// `new int[1]`, with these brackets behind it.
@@ -209,8 +214,8 @@ impl<'a, R: Abort + AllocGlobal> Trees<'a, R> {
         self.boxed(Stmt::Empty(self.tok(";")))
     }
 
-    pub(crate) fn run(&self, value: Box<Expr>) -> Box<Stmt> {
-        self.boxed(Stmt::Value(value, self.tok(";")))
+    pub(crate) fn run(&self, operand: Box<Expr>) -> Box<Stmt> {
+        self.boxed(Stmt::Expression(operand, self.tok(";")))
     }
 
     /// `word (a)`
@@ -218,7 +223,7 @@ impl<'a, R: Abort + AllocGlobal> Trees<'a, R> {
         self.boxed(Head {
             word: self.tok(word),
             left: self.tok("("),
-            value: self.boxed(Expr::Name(self.id("a"))),
+            expression: self.boxed(Expr::Name(self.id("a"))),
             right: self.tok(")"),
         })
     }
@@ -281,7 +286,7 @@ impl<'a, R: Abort + AllocGlobal> Trees<'a, R> {
         };
         let local = Local {
             mods,
-            sort: self.prim(self.no_dims()),
+            used_type: self.prim(self.no_dims()),
             vars: self.only(var),
         };
         self.boxed(Stmt::Local(self.boxed(local), self.tok(";")))

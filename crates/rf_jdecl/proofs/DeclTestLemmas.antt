@@ -149,7 +149,7 @@ interface_takes-Takes (MemberTree.Semi semi) h = tt
 interface_takes-Takes (Init word body) h = absurd (cc)
 interface_takes-Takes (Ctor mods id params throws left call body right) h = absurd (cc)
 interface_takes-Takes (Method mods ret id params throws body) h = interface_method-Is mods body h
-interface_takes-Takes (Field mods sort vars semi) h = interface_field-Is mods vars h
+interface_takes-Takes (Field mods used_type vars semi) h = interface_field-Is mods vars h
 
 Takes-interface_takes : (member : MemberTree) → InterfaceTakes member → IsTrue (interface_takes member)
 unfolding interface_takes
@@ -157,7 +157,7 @@ Takes-interface_takes (MemberTree.Semi semi) h = refl
 Takes-interface_takes (Init word body) h = absurd h
 Takes-interface_takes (Ctor mods id params throws left call body right) h = absurd h
 Takes-interface_takes (Method mods ret id params throws body) h = Is-interface_method mods body h
-Takes-interface_takes (Field mods sort vars semi) h = Is-interface_field mods vars h
+Takes-interface_takes (Field mods used_type vars semi) h = Is-interface_field mods vars h
 
 interface-Is : (decl : TypeDeclTree) → IsTrue (is_interface decl) → IsInterface decl
 unfolding is_interface
@@ -175,7 +175,7 @@ Is-interface decl fit =
 
 pub record IsDecl (decl : TypeDeclTree) : Type 0 where
   pub visible : IsNeitherPrivateNorProtected decl.mods
-  pub sort : (IsClass decl) ⊎ (IsInterface decl)
+  pub kind : (IsClass decl) ⊎ (IsInterface decl)
 
 pub decl_fits-Is : (decl : TypeDeclTree) → IsTrue (decl_fits decl) → IsDecl decl
 unfolding decl_fits
@@ -183,7 +183,7 @@ decl_fits-Is decl h =
     let parts = both (is_visible decl.mods) (is_class decl || is_interface decl) h in
     record {
       visible = is_visible-Is decl.mods parts.0;
-      sort = elim (or_true (is_class decl) (is_interface decl) parts.1) [ inl one ↦ inl (class-Is decl one) | inr other ↦ inr (interface-Is decl other) ];
+      used_type = elim (or_true (is_class decl) (is_interface decl) parts.1) [ inl one ↦ inl (class-Is decl one) | inr other ↦ inr (interface-Is decl other) ];
     }
 
 sort_test : (decl : TypeDeclTree) → (IsClass decl) ⊎ (IsInterface decl) → IsTrue (is_class decl || is_interface decl)
@@ -192,7 +192,7 @@ sort_test decl (inr other) = second_true (is_class decl) (is_interface decl) (Is
 
 pub Is-decl_fits : (decl : TypeDeclTree) → IsDecl decl → IsTrue (decl_fits decl)
 unfolding decl_fits
-Is-decl_fits decl fit = and_true _ _ (Is-is_visible decl.mods fit.visible) (sort_test decl fit.sort)
+Is-decl_fits decl fit = and_true _ _ (Is-is_visible decl.mods fit.visible) (sort_test decl fit.kind)
 
 not_empty-Is : {A : Type 0} (xs : List A) → IsTrue (not (is_empty xs)) → xs ≢ []
 unfolding is_empty

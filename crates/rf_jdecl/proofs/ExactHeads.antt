@@ -38,15 +38,15 @@ comma_no_dot tok rest h = rw h refl
 
 pub names_behind-exact : (key : Kw) (found : Tok × ManyTree NameTree) (rest : List Tok) → NamesFit key found → EndsNames rest → names_behind key (found.0 ∷ (many_yield name_yield found.1 ++ rest)) ≡ Some (found, rest)
 unfolding names_behind behind
-names_behind-exact key found rest fit ends =
-    let no_more : behind (is_op COMMA) name rest ≡ None = bind-None _ _ (token-other (is_op COMMA) rest ends.no_comma) in
+names_behind-exact key found rest fit stops =
+    let no_more : behind (is_op COMMA) name rest ≡ None = bind-None _ _ (token-other (is_op COMMA) rest stops.no_comma) in
     bind-Some _ _ _ _ (token-at (is_key key) found.0 _ (IsKey-is_key key found.0 fit.0))
-    (bind-Some _ _ _ _ (separated-exact NameFits (λ rest. begins (is_op DOT) rest ≡ false) name_yield COMMA name name-exact comma_no_dot found.1 rest fit.1 (ends.no_dot, no_more)) refl)
+    (bind-Some _ _ _ _ (separated-exact NameFits (λ rest. begins (is_op DOT) rest ≡ false) name_yield COMMA name name-exact comma_no_dot found.1 rest fit.1 (stops.no_dot, no_more)) refl)
 
 pub optional_names-exact : (key : Kw) (found : Option (Tok × ManyTree NameTree)) (rest : List Tok) → IfSome found (NamesFit key) → EndsNames rest → begins (is_key key) rest ≡ false → optional (names_behind key) (names_yield found ++ rest) ≡ Some (found, rest)
 unfolding names_behind behind
-optional_names-exact key None rest fit ends none = optional-None _ rest (bind-None _ _ (token-other (is_key key) rest none))
-optional_names-exact key (Some found) rest fit ends none = optional-Some _ _ found rest (names_behind-exact key found rest fit ends)
+optional_names-exact key None rest fit stops none = optional-None _ rest (bind-None _ _ (token-other (is_key key) rest none))
+optional_names-exact key (Some found) rest fit stops none = optional-Some _ _ found rest (names_behind-exact key found rest fit stops)
 
 -- ---- parameters
 
@@ -55,8 +55,8 @@ ident_no_op : (tok : Tok) (rest : List Tok) → IsIdent tok → (begins (is_op D
 unfolding begins is_op
 ident_no_op tok rest h = (rw h refl, rw h refl)
 
-pub type_before_id : (sort : TypeUseTree) (id : Tok) (rest : List Tok) → TypeFits sort → IsIdent id → type_use (type_yield sort ++ id ∷ rest) ≡ Some (sort, id ∷ rest)
-type_before_id sort id rest fit is = let ends = ident_no_op id rest is in type_use-exact sort (id ∷ rest) fit (ends.0, no_brackets (id ∷ rest) ends.1)
+pub type_before_id : (used_type : TypeUseTree) (id : Tok) (rest : List Tok) → TypeFits used_type → IsIdent id → type_use (type_yield used_type ++ id ∷ rest) ≡ Some (used_type, id ∷ rest)
+type_before_id used_type id rest fit is = let stops = ident_no_op id rest is in type_use-exact used_type (id ∷ rest) fit (stops.0, no_brackets (id ∷ rest) stops.1)
 
 -- where no type begins, none is read
 pub no_type : (tok : Tok) (rest : List Tok) → is_key_of PRIMITIVES tok ≡ false → is_ident tok ≡ false → type_use (tok ∷ rest) ≡ None
@@ -68,13 +68,13 @@ NoBracket rest = begins (is_op LEFT_BRACKET) rest ≡ false
 
 pub param-exact : IsExact ParamFits NoBracket param_yield param
 unfolding param
-param-exact found rest fit ends =
-    let tokens : param_yield found ++ rest ≡ mods_yield found.mods ++ (type_yield found.sort ++ found.id ∷ (dims_yield found.dims ++ rest)) = simp append_assoc in
+param-exact found rest fit stops =
+    let tokens : param_yield found ++ rest ≡ mods_yield found.mods ++ (type_yield found.used_type ++ found.id ∷ (dims_yield found.dims ++ rest)) = simp append_assoc in
     reads-same param tokens
-    (bind-Some _ _ _ _ (variable_mods-exact found.mods _ fit.mods_fit (type_no_mod found.sort _ fit.sort_fits))
-    (bind-Some _ _ _ _ (type_before_id found.sort found.id _ fit.sort_fits fit.id_is)
+    (bind-Some _ _ _ _ (variable_mods-exact found.mods _ fit.mods_fit (type_no_mod found.used_type _ fit.used_type_fits))
+    (bind-Some _ _ _ _ (type_before_id found.used_type found.id _ fit.used_type_fits fit.id_is)
     (bind-Some _ _ _ _ (token-at is_ident found.id _ (IsIdent-is_ident found.id fit.id_is))
-    (bind-Some _ _ _ _ (dims-exact found.dims rest fit.dims_fit (no_brackets rest ends)) refl))))
+    (bind-Some _ _ _ _ (dims-exact found.dims rest fit.dims_fit (no_brackets rest stops)) refl))))
 
 comma_no_bracket : (tok : Tok) (rest : List Tok) → IsOp COMMA tok → NoBracket (tok ∷ rest)
 unfolding begins is_op

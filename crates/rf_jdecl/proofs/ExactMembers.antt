@@ -5,7 +5,7 @@ use Rattle.rf_jtree.specs.declared.tokens.Tok.{Tok}
 use Rattle.rf_jtree.specs.declared.operator_names.TheConstants.{RIGHT_BRACE, SEMICOLON, COMMA, AT}
 use Rattle.rf_jtree.specs.declared.keyword_names.TheConstants.{STATIC, THROWS, VOID, MODIFIERS}
 use Rattle.rf_jtree.specs.DeclFits.{RetFits, BodyFits, IsCallable}
-use Rattle.rf_jtree.specs.DeclTrees.{RetTree, Void, Value, BodyTree, Block, MemberTree, Init, Ctor, Method, Field, ParamsTree, names_yield, params_yield, ctor_call_yield, ret_yield, body_yield, member_yield}
+use Rattle.rf_jtree.specs.DeclTrees.{RetTree, Void, Typed, BodyTree, Block, MemberTree, Init, Ctor, Method, Field, ParamsTree, names_yield, params_yield, ctor_call_yield, ret_yield, body_yield, member_yield}
 use Rattle.rf_jtree.specs.Kinds.{IsOp, IsKey, is_key_of}
 use Rattle.rf_jtree.specs.NameFits.{EachFits, ManyFit, ModsFit, TypeFits}
 use Rattle.rf_jtree.specs.NameTrees.{ManyTree, NameTree, ModTree, TypeUseTree, mods_yield, many_yield, type_yield, option_yield, tok_yield, many_depth}
@@ -132,10 +132,10 @@ module _ (m : ℕ) (e : AreExactStmts m (stmt_parsers m)) where
       (bind-Some _ _ _ _ (optional_names-exact THROWS throws _ fit.throws_fit (body_ends_names end rest good.fits) (body_no_throws end rest good.fits))
       (bind-Some _ _ _ _ (body-exact end rest good tt) refl)))
 
-  field-exact : (mods : List ModTree) (sort : TypeUseTree) (vars : ManyTree VarTree) (semi : Tok) (rest : List Tok) → ManyFit VarFits COMMA vars → many_depth var_depth vars ≤ m → IsOp SEMICOLON semi
-      → field m mods sort (many_yield var_yield vars ++ semi ∷ rest) ≡ Some (Field mods sort vars semi, rest)
+  field-exact : (mods : List ModTree) (used_type : TypeUseTree) (vars : ManyTree VarTree) (semi : Tok) (rest : List Tok) → ManyFit VarFits COMMA vars → many_depth var_depth vars ≤ m → IsOp SEMICOLON semi
+      → field m mods used_type (many_yield var_yield vars ++ semi ∷ rest) ≡ Some (Field mods used_type vars semi, rest)
   unfolding field behind
-  field-exact mods sort vars semi rest fit shallow is =
+  field-exact mods used_type vars semi rest fit shallow is =
       let none : behind (is_op COMMA) (var (parsers m)) (semi ∷ rest) ≡ None = bind-None _ _ (token-other (is_op COMMA) (semi ∷ rest) (semi_no_comma semi rest is)) in
       bind-Some _ _ _ _ (vars-exact m (parsers m) (exprs_exact m) vars (semi ∷ rest) (vars_good m vars fit shallow) (semi_ends semi rest is, none))
       (bind-Some _ _ _ _ (token-at (is_op SEMICOLON) semi rest (IsOp-is_op SEMICOLON semi is)) refl)
@@ -148,16 +148,16 @@ module _ (m : ℕ) (e : AreExactStmts m (stmt_parsers m)) where
   method-read mods (Void tok) id list throws end rest ret_fit fit good =
       if-false _ _ _ (void_not_callable tok _ ret_fit) ∙ if-true _ _ _ (IsKey-is_key VOID tok ret_fit) ∙
       bind-Some _ _ _ _ (token-at (is_key VOID) tok _ (IsKey-is_key VOID tok ret_fit)) (method-exact mods (Void tok) id list throws end rest fit good)
-  method-read mods (Value sort) id list throws end rest ret_fit fit good =
-      if-false _ _ _ (type_not_callable sort id _ ret_fit fit.id_is) ∙ if-false _ _ _ (type_no_void sort _ ret_fit) ∙
-      bind-Some _ _ _ _ (type_before_id sort id _ ret_fit fit.id_is) (if-true _ _ _ (callable id list _ fit.id_is fit.params_fit) ∙ method-exact mods (Value sort) id list throws end rest fit good)
+  method-read mods (Typed used_type) id list throws end rest ret_fit fit good =
+      if-false _ _ _ (type_not_callable used_type id _ ret_fit fit.id_is) ∙ if-false _ _ _ (type_no_void used_type _ ret_fit) ∙
+      bind-Some _ _ _ _ (type_before_id used_type id _ ret_fit fit.id_is) (if-true _ _ _ (callable id list _ fit.id_is fit.params_fit) ∙ method-exact mods (Typed used_type) id list throws end rest fit good)
 
-  field-read : (mods : List ModTree) (sort : TypeUseTree) (vars : ManyTree VarTree) (semi : Tok) (rest : List Tok) → TypeFits sort → ManyFit VarFits COMMA vars → many_depth var_depth vars ≤ m → IsOp SEMICOLON semi
-      → behind_mods m mods (type_yield sort ++ (many_yield var_yield vars ++ semi ∷ rest)) ≡ Some (Field mods sort vars semi, rest)
+  field-read : (mods : List ModTree) (used_type : TypeUseTree) (vars : ManyTree VarTree) (semi : Tok) (rest : List Tok) → TypeFits used_type → ManyFit VarFits COMMA vars → many_depth var_depth vars ≤ m → IsOp SEMICOLON semi
+      → behind_mods m mods (type_yield used_type ++ (many_yield var_yield vars ++ semi ∷ rest)) ≡ Some (Field mods used_type vars semi, rest)
   unfolding behind_mods typed
-  field-read mods sort vars semi rest sort_fit fit shallow is =
-      if-false _ _ _ (type_not_callable sort vars.first.id _ sort_fit fit.0.id_is) ∙ if-false _ _ _ (type_no_void sort _ sort_fit) ∙
-      bind-Some _ _ _ _ (type_before_id sort vars.first.id _ sort_fit fit.0.id_is) (if-false _ _ _ (vars_not_callable vars semi rest fit is) ∙ field-exact mods sort vars semi rest fit shallow is)
+  field-read mods used_type vars semi rest used_type_fit fit shallow is =
+      if-false _ _ _ (type_not_callable used_type vars.first.id _ used_type_fit fit.0.id_is) ∙ if-false _ _ _ (type_no_void used_type _ used_type_fit) ∙
+      bind-Some _ _ _ _ (type_before_id used_type vars.first.id _ used_type_fit fit.0.id_is) (if-false _ _ _ (vars_not_callable vars semi rest fit is) ∙ field-exact mods used_type vars semi rest fit shallow is)
 
   -- ---- all of them
 
@@ -169,7 +169,7 @@ module _ (m : ℕ) (e : AreExactStmts m (stmt_parsers m)) where
 
   ret_begins : (ret : RetTree) (rest : List Tok) → RetFits ret → BeginsSo (ret_yield ret ++ rest)
   ret_begins (Void tok) rest fit = void_begins tok rest fit
-  ret_begins (Value sort) rest fit = type_begins sort rest fit
+  ret_begins (Typed used_type) rest fit = type_begins used_type rest fit
 
   pub member-exact : IsExact (GoodMember m) Anything member_yield (member m)
   unfolding member stray initializer behind_mods begins
@@ -192,11 +192,11 @@ module _ (m : ℕ) (e : AreExactStmts m (stmt_parsers m)) where
       let tokens : member_yield (Method mods ret id list throws end) ++ rest ≡ mods_yield mods ++ (ret_yield ret ++ id ∷ (params_yield list ++ (names_yield throws ++ (body_yield end ++ rest)))) = simp append_assoc in
       reads-same (member m) tokens
       (modified-read mods _ _ rest fit.0 (ret_begins ret _ fit.1) (method-read mods ret id list throws end rest fit.1 fit.2 (record { fits = fit.3; shallow = good.shallow })))
-  member-exact (Field mods sort vars semi) rest good stop =
+  member-exact (Field mods used_type vars semi) rest good stop =
       let fit = good.fits in
-      let tokens : member_yield (Field mods sort vars semi) ++ rest ≡ mods_yield mods ++ (type_yield sort ++ (many_yield var_yield vars ++ semi ∷ rest)) = simp append_assoc in
+      let tokens : member_yield (Field mods used_type vars semi) ++ rest ≡ mods_yield mods ++ (type_yield used_type ++ (many_yield var_yield vars ++ semi ∷ rest)) = simp append_assoc in
       reads-same (member m) tokens
-      (modified-read mods _ _ rest fit.0 (type_begins sort _ fit.1) (field-read mods sort vars semi rest fit.1 fit.2 good.shallow fit.3))
+      (modified-read mods _ _ rest fit.0 (type_begins used_type _ fit.1) (field-read mods used_type vars semi rest fit.1 fit.2 good.shallow fit.3))
 
   -- ---- as many as stand there
 
@@ -215,10 +215,10 @@ module _ (m : ℕ) (e : AreExactStmts m (stmt_parsers m)) where
   member_some (Init found body) good = some_block (option_yield tok_yield found) body
   member_some (Ctor mods id list throws left call body right) good = some_of (mods_yield mods) _ id
   member_some (Method mods ret id list throws end) good = some_ret (mods_yield mods) ret id _
-  member_some (Field mods sort vars semi) good =
+  member_some (Field mods used_type vars semi) good =
       let some = some_of (many_yield var_yield vars) [] semi in
-      let more = length-append (type_yield sort) (many_yield var_yield vars ++ semi ∷ []) in
-      omega (arith, length-append (mods_yield mods) (type_yield sort ++ (many_yield var_yield vars ++ semi ∷ [])))
+      let more = length-append (type_yield used_type) (many_yield var_yield vars ++ semi ∷ []) in
+      omega (arith, length-append (mods_yield mods) (type_yield used_type ++ (many_yield var_yield vars ++ semi ∷ [])))
 
   pub members-exact : (list : List MemberTree) (right : Tok) (rest : List Tok) → EachFits (GoodMember m) list → IsOp RIGHT_BRACE right → members m (flat_map member_yield list ++ right ∷ rest) ≡ Some (list, right ∷ rest)
   unfolding members

@@ -66,7 +66,7 @@ decl_tokens decl rest = simp append_assoc
 
 decl_differs : (key : Kw) → has_key MODIFIERS key ≡ false → has_key (CLASS ∷ INTERFACE ∷ []) key ≡ false → (decl : TypeDeclTree) (rest : List Tok) → DeclFits decl → begins (is_key key) (decl_yield decl ++ rest) ≡ false
 decl_differs key none no_type decl rest fit =
-    subst (λ toks. begins (is_key key) toks ≡ false) (sym (decl_tokens decl rest)) (mods_differ key none decl.mods _ fit.mods_fit.each (word_differs key no_type decl.word _ (type_word decl fit.sort)))
+    subst (λ toks. begins (is_key key) toks ≡ false) (sym (decl_tokens decl rest)) (mods_differ key none decl.mods _ fit.mods_fit.each (word_differs key no_type decl.word _ (type_word decl fit.used_type)))
 
 -- ---- the names in its head
 
@@ -156,7 +156,7 @@ module _ (m : ℕ) (e : AreExactStmts m (stmt_parsers m)) where
   unfolding any_decl
   any_decl-exact decl rest good stop =
       let fit = good.fits in
-      let word_is = type_word decl fit.sort in
+      let word_is = type_word decl fit.kind in
       let implemented = names_end_head decl.implements decl.left (flat_map member_yield decl.members ++ decl.right ∷ rest) fit.implements_fits fit.braces.0 in
       let opened = brace_ends_head IMPLEMENTS decl.left (flat_map member_yield decl.members ++ decl.right ∷ rest) fit.braces.0 in
       reads-same (any_decl m) (decl_tokens decl rest)
@@ -172,7 +172,7 @@ module _ (m : ℕ) (e : AreExactStmts m (stmt_parsers m)) where
   type_decl-exact : IsExact (GoodDecl m) Anything decl_yield (type_decl m)
   unfolding type_decl
   type_decl-exact decl rest good stop =
-      bind-Some _ _ _ _ (any_decl-exact decl rest good tt) (when-true _ _ (Is-decl_fits decl (record { visible = good.fits.visible; sort = good.fits.sort })))
+      bind-Some _ _ _ _ (any_decl-exact decl rest good tt) (when-true _ _ (Is-decl_fits decl (record { visible = good.fits.visible; kind = good.fits.kind })))
 
   -- ---- files
 

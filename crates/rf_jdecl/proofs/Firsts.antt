@@ -82,11 +82,11 @@ unfolding begins
 base_no_brace (Prim tok) rest fit = (key_no_op PRIMITIVES LEFT_BRACE tok fit, key_no_op PRIMITIVES SEMICOLON tok fit, other_key PRIMITIVES STATIC refl tok fit)
 base_no_brace (Named found) rest fit = let first = ident_begins found.ids.first rest fit.0 in (first.no_brace, first.no_semi, first.no_static)
 
-pub type_begins : (sort : TypeUseTree) (rest : List Tok) → TypeFits sort → BeginsSo (type_yield sort ++ rest)
-type_begins sort rest fit =
-    let parts = base_no_brace sort.base (dims_yield sort.dims ++ rest) fit.0 in
-    let tokens : (type_yield sort ++ rest) ≡ base_yield sort.base ++ (dims_yield sort.dims ++ rest) = append_assoc (base_yield sort.base) (dims_yield sort.dims) rest in
-    record { no_mod = type_no_mod sort rest fit; no_brace = rw tokens parts.0; no_semi = rw tokens parts.1; no_static = rw tokens parts.2 }
+pub type_begins : (used_type : TypeUseTree) (rest : List Tok) → TypeFits used_type → BeginsSo (type_yield used_type ++ rest)
+type_begins used_type rest fit =
+    let parts = base_no_brace used_type.base (dims_yield used_type.dims ++ rest) fit.0 in
+    let tokens : (type_yield used_type ++ rest) ≡ base_yield used_type.base ++ (dims_yield used_type.dims ++ rest) = append_assoc (base_yield used_type.base) (dims_yield used_type.dims) rest in
+    record { no_mod = type_no_mod used_type rest fit; no_brace = rw tokens parts.0; no_semi = rw tokens parts.1; no_static = rw tokens parts.2 }
 
 -- ---- modifiers before them
 
@@ -154,9 +154,9 @@ type_not_by_base : (base : TypeBaseTree) (pairs : List (Tok × Tok)) (id : Tok) 
 type_not_by_base (Prim tok) pairs id rest fit each is = primitive_not_callable tok _ fit
 type_not_by_base (Named found) pairs id rest fit each is = not_callable found.ids.first _ (dots_no_paren found.ids.rest _ fit.1 (dims_no_paren pairs _ each (ident_no_paren id rest is)))
 
-pub type_not_callable : (sort : TypeUseTree) (id : Tok) (rest : List Tok) → TypeFits sort → IsIdent id → begins_callable (type_yield sort ++ id ∷ rest) ≡ false
-type_not_callable sort id rest fit is =
-    subst (λ toks. begins_callable toks ≡ false) (sym (append_assoc (base_yield sort.base) (dims_yield sort.dims) (id ∷ rest))) (type_not_by_base sort.base sort.dims.list id rest fit.0 fit.1 is)
+pub type_not_callable : (used_type : TypeUseTree) (id : Tok) (rest : List Tok) → TypeFits used_type → IsIdent id → begins_callable (type_yield used_type ++ id ∷ rest) ≡ false
+type_not_callable used_type id rest fit is =
+    subst (λ toks. begins_callable toks ≡ false) (sym (append_assoc (base_yield used_type.base) (dims_yield used_type.dims) (id ∷ rest))) (type_not_by_base used_type.base used_type.dims.list id rest fit.0 fit.1 is)
 
 beginning_no_paren : (found : Option (Tok × InitTree)) (rest : List Tok) → IfSome found BeginningFits → NoParen rest → NoParen (option_yield (behind_yield init_yield) found ++ rest)
 unfolding begins is_op
@@ -185,5 +185,5 @@ unfolding begins is_key
 base_no_void (Prim tok) rest fit = other_key PRIMITIVES VOID refl tok fit
 base_no_void (Named found) rest fit = rw fit.0 refl
 
-pub type_no_void : (sort : TypeUseTree) (rest : List Tok) → TypeFits sort → begins (is_key VOID) (type_yield sort ++ rest) ≡ false
-type_no_void sort rest fit = subst (λ toks. begins (is_key VOID) toks ≡ false) (sym (append_assoc (base_yield sort.base) (dims_yield sort.dims) rest)) (base_no_void sort.base (dims_yield sort.dims ++ rest) fit.0)
+pub type_no_void : (used_type : TypeUseTree) (rest : List Tok) → TypeFits used_type → begins (is_key VOID) (type_yield used_type ++ rest) ≡ false
+type_no_void used_type rest fit = subst (λ toks. begins (is_key VOID) toks ≡ false) (sym (append_assoc (base_yield used_type.base) (dims_yield used_type.dims) rest)) (base_no_void used_type.base (dims_yield used_type.dims ++ rest) fit.0)

@@ -41,11 +41,11 @@ pub param-sound : IsSound ParamFits param_yield param
 unfolding param
 param-sound toks y h =
     step_part _ _ variable_mods toks _ y variable_mods-sound h (λ found a k.
-    step_part _ _ type_use found.1 _ y type_use-sound k (λ sort b l.
-    step_tok is_ident sort.1 _ y l (λ id c n.
-    step_part _ _ dims id.1 _ y dims-sound n (λ ends d same.
-    done ParamFits param_yield toks (record { mods = found.0; sort = sort.0; id = id.0; dims = ends.0 }) ends.1 y same
-    (record { mods_fit = a.fits; sort_fits = b.fits; id_is = is_ident-IsIdent id.0 c.is; dims_fit = d.fits })
+    step_part _ _ type_use found.1 _ y type_use-sound k (λ used_type b l.
+    step_tok is_ident used_type.1 _ y l (λ id c n.
+    step_part _ _ dims id.1 _ y dims-sound n (λ bracket_pairs d same.
+    done ParamFits param_yield toks (record { mods = found.0; used_type = used_type.0; id = id.0; dims = bracket_pairs.0 }) bracket_pairs.1 y same
+    (record { mods_fit = a.fits; used_type_fits = b.fits; id_is = is_ident-IsIdent id.0 c.is; dims_fit = d.fits })
     (part_then _ a.takes (part_then _ b.takes (tok_then c.takes (at_last _ d.takes))))))))
 
 pub params-sound : IsSound ParamsFit params_yield params

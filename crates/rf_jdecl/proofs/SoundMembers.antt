@@ -5,7 +5,7 @@ use Rattle.rf_jtree.specs.declared.tokens.Tok.{Tok}
 use Rattle.rf_jtree.specs.declared.operator_names.TheConstants.{LEFT_BRACE, RIGHT_BRACE, SEMICOLON, COMMA}
 use Rattle.rf_jtree.specs.declared.keyword_names.TheConstants.{STATIC, THROWS, VOID}
 use Rattle.rf_jtree.specs.DeclFits.{CtorCallFits, RetFits, BodyFits, MemberFits}
-use Rattle.rf_jtree.specs.DeclTrees.{CtorCallTree, RetTree, Void, Value, BodyTree, Block, MemberTree, Init, Ctor, Method, Field, names_yield, params_yield, ctor_call_yield, ret_yield, body_yield, member_yield, body_depth, member_depth}
+use Rattle.rf_jtree.specs.DeclTrees.{CtorCallTree, RetTree, Void, Typed, BodyTree, Block, MemberTree, Init, Ctor, Method, Field, names_yield, params_yield, ctor_call_yield, ret_yield, body_yield, member_yield, body_depth, member_depth}
 use Rattle.rf_jtree.specs.ExprTrees.{args_depth}
 use Rattle.rf_jtree.specs.Kinds.{IsKey}
 use Rattle.rf_jtree.specs.NameFits.{EachFits, ModsFit, TypeFits}
@@ -143,14 +143,14 @@ module _ (m : ℕ) (s : AreSoundStmts m (stmt_parsers m)) where
 
   -- ---- fields
 
-  field-sound : (found : List ModTree) (sort : TypeUseTree) → ModsFit found → TypeFits sort → (whole behind toks : List Tok) (y : MemberTree × List Tok) → whole ≡ mods_yield found ++ behind → behind ≡ type_yield sort ++ toks
-      → field m found sort toks ≡ Some y → Read (GoodMember m) member_yield whole y.0 y.1
+  field-sound : (found : List ModTree) (used_type : TypeUseTree) → ModsFit found → TypeFits used_type → (whole behind toks : List Tok) (y : MemberTree × List Tok) → whole ≡ mods_yield found ++ behind → behind ≡ type_yield used_type ++ toks
+      → field m found used_type toks ≡ Some y → Read (GoodMember m) member_yield whole y.0 y.1
   unfolding field
-  field-sound found sort fit sort_fit whole behind toks y before before_vars h =
+  field-sound found used_type fit used_type_fit whole behind toks y before before_vars h =
       step_part _ _ (separated COMMA (var (parsers m))) toks _ y (vars-sound m (parsers m) (parsers-sound m)) h (λ vars a k.
       step_tok (is_op SEMICOLON) vars.1 _ y k (λ semi b same.
-      done (GoodMember m) member_yield whole (Field found sort vars.0 semi.0) semi.1 y same
-      (record { fits = (fit, sort_fit, vars-fit m vars.0 a.fits, is_op-IsOp SEMICOLON semi.0 b.is); shallow = vars-shallow m vars.0 a.fits })
+      done (GoodMember m) member_yield whole (Field found used_type vars.0 semi.0) semi.1 y same
+      (record { fits = (fit, used_type_fit, vars-fit m vars.0 a.fits, is_op-IsOp SEMICOLON semi.0 b.is); shallow = vars-shallow m vars.0 a.fits })
       (part_then _ before (part_then _ before_vars (part_then (many_yield var_yield vars.0) a.takes (tok_last b.takes))))))
 
   -- ---- all of them
@@ -158,10 +158,10 @@ module _ (m : ℕ) (s : AreSoundStmts m (stmt_parsers m)) where
   typed-sound : (found : List ModTree) → ModsFit found → IsSoundBehind found (typed m found)
   unfolding typed
   typed-sound found fit whole toks y before h =
-      step_part _ _ type_use toks _ y type_use-sound h (λ sort a.
-      either_way (begins_callable sort.1) _ _ y
-      (method-sound found (Value sort.0) fit a.fits whole toks sort.1 y before a.takes)
-      (field-sound found sort.0 fit a.fits whole toks sort.1 y before a.takes))
+      step_part _ _ type_use toks _ y type_use-sound h (λ used_type a.
+      either_way (begins_callable used_type.1) _ _ y
+      (method-sound found (Typed used_type.0) fit a.fits whole toks used_type.1 y before a.takes)
+      (field-sound found used_type.0 fit a.fits whole toks used_type.1 y before a.takes))
 
   behind_mods-sound : (found : List ModTree) → ModsFit found → IsSoundBehind found (behind_mods m found)
   unfolding behind_mods

@@ -59,7 +59,7 @@ with_sort : (decl : TypeDeclTree) → HasParts decl → IsDecl decl → DeclFits
 with_sort decl parts is = record {
   mods_fit = parts.mods_fit;
   visible = is.visible;
-  sort = is.sort;
+  kind = is.kind;
   id_is = parts.id_is;
   extends_fits = parts.extends_fits;
   implements_fits = parts.implements_fits;

@@ -54,7 +54,7 @@ interface_takes (MemberTree.Semi semi) = true
 interface_takes (Init word body) = false
 interface_takes (Ctor mods id params throws left call body right) = false
 interface_takes (Method mods ret id params throws body) = is_interface_method mods body
-interface_takes (Field mods sort vars semi) = is_interface_field mods vars
+interface_takes (Field mods used_type vars semi) = is_interface_field mods vars
 
 -- An interface implements nothing (JLS 9.1.3).
 unfoldable pub is_interface : TypeDeclTree → Bool

@@ -23,10 +23,10 @@ names_behind key = behind (is_key key) (separated COMMA name)
 unfoldable pub param : Reads ParamTree
 param toks = do
   found ← variable_mods toks
-  sort ← type_use found.1
-  id ← token is_ident sort.1
-  ends ← dims id.1
-  Some (record { mods = found.0; sort = sort.0; id = id.0; dims = ends.0 }, ends.1)
+  used_type ← type_use found.1
+  id ← token is_ident used_type.1
+  bracket_pairs ← dims id.1
+  Some (record { mods = found.0; used_type = used_type.0; id = id.0; dims = bracket_pairs.0 }, bracket_pairs.1)
 
 -- parameters in parentheses (JLS 8.4.1)
 unfoldable pub params : Reads ParamsTree

@@ -5,7 +5,7 @@ use Rattle.std.specs.List.{list_all}
 use Rattle.rf_jtree.specs.declared.tokens.Tok.{Tok}
 use Rattle.rf_jtree.specs.declared.operator_names.TheConstants.{LEFT_BRACE, RIGHT_BRACE, SEMICOLON, COMMA}
 use Rattle.rf_jtree.specs.declared.keyword_names.TheConstants.{STATIC, SUPER, THIS, THROWS, VOID, ACCESSES}
-use Rattle.rf_jtree.specs.DeclTrees.{CtorCallTree, RetTree, Void, Value, BodyTree, Block, MemberTree, Init, Ctor, Method, Field}
+use Rattle.rf_jtree.specs.DeclTrees.{CtorCallTree, RetTree, Void, Typed, BodyTree, Block, MemberTree, Init, Ctor, Method, Field}
 use Rattle.rf_jtree.specs.Kinds.{is_key_of}
 use Rattle.rf_jtree.specs.NameTrees.{ModTree, Word, TypeUseTree}
 use Rattle.rf_jexpr.specs.Descent.{parsers}
@@ -87,16 +87,16 @@ void_method m found toks = token (is_key VOID) toks >>= λ word. method m found 
 -- ---- fields (JLS 8.3, 9.3)
 
 unfoldable pub field : ℕ → List ModTree → TypeUseTree → Reads MemberTree
-field m found sort toks = do
+field m found used_type toks = do
   vars ← separated COMMA (var (parsers m)) toks
   semi ← token (is_op SEMICOLON) vars.1
-  Some (Field found sort vars.0 semi.0, semi.1)
+  Some (Field found used_type vars.0 semi.0, semi.1)
 
 -- ---- all of them, by what stands first
 
 -- a method or a field, behind its modifiers
 unfoldable pub typed : ℕ → List ModTree → Reads MemberTree
-typed m found toks = type_use toks >>= λ sort. if begins_callable sort.1 then method m found (Value sort.0) sort.1 else field m found sort.0 sort.1
+typed m found toks = type_use toks >>= λ used_type. if begins_callable used_type.1 then method m found (Typed used_type.0) used_type.1 else field m found used_type.0 used_type.1
 
 unfoldable pub behind_mods : ℕ → List ModTree → Reads MemberTree
 behind_mods m found toks =

@@ -20,16 +20,16 @@ pub(crate) fn field(
     at: usize,
     room: u32,
     mods: List<Mod>,
-    sort: TypeUse,
+    used_type: TypeUse,
 ) -> Result<Found<Member>, ParseErr>
     ensures { GivesTree member_shown member_depth room t.now at result
-        (field room (mods_shown mods) (type_shown sort) (drop at t.now)) }
+        (field room (mods_shown mods) (type_shown used_type) (drop at t.now)) }
 {
     let list = vars(alloc, t, at, room)?;
     let semi = take(alloc, t, list.end, Want::Op(SEMICOLON))?;
     let tree = Member::Field {
         mods,
-        sort,
+        used_type,
         vars: list.tree,
         semi: semi.item,
     };

@@ -119,18 +119,18 @@ fn param(alloc: Global, t: &[Tok], at: usize) -> Result<Taken<Param>, ParseErr>
     ensures { Gives param_shown t.now at result (param (drop at t.now)) }
 {
     let found = variable_mods(alloc, t, at)?;
-    let sort = type_use(alloc, t, found.end)?;
-    let id = take(alloc, t, sort.end, Want::Ident)?;
-    let ends = dims(alloc, t, id.end)?;
+    let used_type = type_use(alloc, t, found.end)?;
+    let id = take(alloc, t, used_type.end, Want::Ident)?;
+    let bracket_pairs = dims(alloc, t, id.end)?;
     let item = Param {
         mods: found.item,
-        sort: sort.item,
+        used_type: used_type.item,
         id: id.item,
-        dims: ends.item,
+        dims: bracket_pairs.item,
     };
     Ok(Taken {
         item,
-        end: ends.end,
+        end: bracket_pairs.end,
     })
 }
 

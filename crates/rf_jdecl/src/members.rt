@@ -64,11 +64,18 @@ fn typed(
     ensures { GivesTree member_shown member_depth room t.now at result
         (typed room (mods_shown mods) (drop at t.now)) }
 {
-    let sort = type_use(alloc, t, at)?;
-    if begins_callable(t, sort.end) {
-        return method(alloc, t, sort.end, room, mods, Ret::Value(sort.item));
+    let used_type = type_use(alloc, t, at)?;
+    if begins_callable(t, used_type.end) {
+        return method(
+            alloc,
+            t,
+            used_type.end,
+            room,
+            mods,
+            Ret::Typed(used_type.item),
+        );
     }
-    field(alloc, t, sort.end, room, mods, sort.item)
+    field(alloc, t, used_type.end, room, mods, used_type.item)
 }
 
 /// A constructor, a method or a field, behind its modifiers.

@@ -37,7 +37,7 @@ type_base-bounded n toks h =
 pub type_use-bounded : IsBounded type_use
 unfolding type_use
 type_use-bounded n toks h =
-    within-bind n _ _ (type_base-bounded n toks h) (λ base k. within-bind n _ _ (dims-bounded n base.1 k) (λ ends l. within-Some n _ l))
+    within-bind n _ _ (type_base-bounded n toks h) (λ base k. within-bind n _ _ (dims-bounded n base.1 k) (λ bracket_pairs l. within-Some n _ l))
 
 -- ---- parts
 
@@ -54,8 +54,8 @@ module _ (p : Parsers) (w : AreBounded p) where
   unfolding paren
   paren-bounded n toks h =
       within-bind n _ _ (within-token (is_op LEFT_PAREN) n toks h) (λ left k.
-      within-bind n _ _ (w.expr n left.1 k) (λ value l.
-      within-bind n _ _ (within-token (is_op RIGHT_PAREN) n value.1 l) (λ right o. within-Some n _ o)))
+      within-bind n _ _ (w.expr n left.1 k) (λ operand l.
+      within-bind n _ _ (within-token (is_op RIGHT_PAREN) n operand.1 l) (λ right o. within-Some n _ o)))
 
   pub args-bounded : IsBounded (args p)
   unfolding args
@@ -68,8 +68,8 @@ module _ (p : Parsers) (w : AreBounded p) where
   unfolding sized
   sized-bounded n toks h =
       within-bind n _ _ (within-token (is_op LEFT_BRACKET) n toks h) (λ left k.
-      within-bind n _ _ (w.expr n left.1 k) (λ value l.
-      within-bind n _ _ (within-token (is_op RIGHT_BRACKET) n value.1 l) (λ right o. within-Some n _ o)))
+      within-bind n _ _ (w.expr n left.1 k) (λ operand l.
+      within-bind n _ _ (within-token (is_op RIGHT_BRACKET) n operand.1 l) (λ right o. within-Some n _ o)))
 
   pub braces-bounded : IsBounded (braces p)
   unfolding braces
@@ -97,9 +97,9 @@ module _ (p : Parsers) (w : AreBounded p) where
   pub new_array-bounded : (word : Tok) (base : TypeBaseTree) (sizes : List (Tok × ExprTree × Tok)) → IsBounded (new_array p word base sizes)
   unfolding new_array new_filled
   new_array-bounded word base [] n toks h =
-      within-bind n _ _ (dims-bounded n toks h) (λ ends k.
-      within-bind n _ _ (within-when n _ _ (braces-bounded n ends.1 k)) (λ items l. within-Some n _ l))
-  new_array-bounded word base (size ∷ sizes) n toks h = within-bind n _ _ (dims-bounded n toks h) (λ ends k. within-Some n _ k)
+      within-bind n _ _ (dims-bounded n toks h) (λ bracket_pairs k.
+      within-bind n _ _ (within-when n _ _ (braces-bounded n bracket_pairs.1 k)) (λ items l. within-Some n _ l))
+  new_array-bounded word base (size ∷ sizes) n toks h = within-bind n _ _ (dims-bounded n toks h) (λ bracket_pairs k. within-Some n _ k)
 
   pub creation-bounded : IsBounded (creation p)
   unfolding creation
@@ -138,32 +138,32 @@ module _ (p : Parsers) (w : AreBounded p) where
 
   -- ---- the levels
 
-  pub step-bounded : (m : ℕ) (value : ExprTree) → IsBounded (step m value)
+  pub step-bounded : (m : ℕ) (operand : ExprTree) → IsBounded (step m operand)
   unfolding step
-  step-bounded m value n toks h = within-when n _ _ (within-bind n _ _ (within-token (is_op_of SUFFIXES) n toks h) (λ op k. within-Some n _ k))
+  step-bounded m operand n toks h = within-when n _ _ (within-bind n _ _ (within-token (is_op_of SUFFIXES) n toks h) (λ op k. within-Some n _ k))
 
   pub postfix-bounded : (m : ℕ) → IsBounded (postfix m p)
   unfolding postfix
-  postfix-bounded m n toks h = within-bind n _ _ (primary-bounded m n toks h) (λ value k. within-chain (step m) (step-bounded m) (suc m) value.0 n value.1 k)
+  postfix-bounded m n toks h = within-bind n _ _ (primary-bounded m n toks h) (λ operand k. within-chain (step m) (step-bounded m) (suc m) operand.0 n operand.1 k)
 
   pub cast-bounded : IsBounded (cast p)
   unfolding cast
   cast-bounded n toks h =
       within-bind n _ _ (within-token (is_op LEFT_PAREN) n toks h) (λ left k.
-      within-bind n _ _ (type_use-bounded n left.1 k) (λ sort l.
-      within-bind n _ _ (within-token (is_op RIGHT_PAREN) n sort.1 l) (λ right o.
-      within-bind n _ _ (within-when n _ _ (w.unary n right.1 o)) (λ value q. within-Some n _ q))))
+      within-bind n _ _ (type_use-bounded n left.1 k) (λ used_type l.
+      within-bind n _ _ (within-token (is_op RIGHT_PAREN) n used_type.1 l) (λ right o.
+      within-bind n _ _ (within-when n _ _ (w.unary n right.1 o)) (λ operand q. within-Some n _ q))))
 
   pub unary-bounded : (m : ℕ) → IsBounded (unary m p)
   unfolding unary prefixed
   unary-bounded m n toks h =
-      within-if n _ _ _ (within-bind n _ _ (within-token (is_op_of PREFIXES) n toks h) (λ op k. within-bind n _ _ (w.unary n op.1 k) (λ value l. within-Some n _ l)))
+      within-if n _ _ _ (within-bind n _ _ (within-token (is_op_of PREFIXES) n toks h) (λ op k. within-bind n _ _ (w.unary n op.1 k) (λ operand l. within-Some n _ l)))
       (within-else n _ _ (cast-bounded n toks h) (postfix-bounded m n toks h))
 
   pub operator-bounded : (m least : ℕ) (left : ExprTree) → IsBounded (operator m p least left)
   unfolding operator operation instance
   operator-bounded m least left n toks h = within-when n _ _ (within-if n _ _ _
-      (within-bind n _ _ (within-when n _ _ (within-token (is_key INSTANCEOF) n toks h)) (λ word k. within-bind n _ _ (type_use-bounded n word.1 k) (λ sort l. within-Some n _ l)))
+      (within-bind n _ _ (within-when n _ _ (within-token (is_key INSTANCEOF) n toks h)) (λ word k. within-bind n _ _ (type_use-bounded n word.1 k) (λ used_type l. within-Some n _ l)))
       (within-bind n _ _ (within-token (takes_left least left) n toks h) (λ op k. within-bind n _ _ (w.binary _ n op.1 k) (λ right l. within-Some n _ l))))
 
   pub binary-bounded : (m least : ℕ) → IsBounded (binary m p least)
@@ -185,7 +185,7 @@ module _ (p : Parsers) (w : AreBounded p) where
   pub assignment-bounded : (m : ℕ) (left : ExprTree) → IsBounded (assignment m p left)
   unfolding assignment
   assignment-bounded m left n toks h =
-      within-bind n _ _ (within-when n _ _ (within-token (is_op_of ASSIGNMENTS) n toks h)) (λ op k. within-bind n _ _ (w.expr n op.1 k) (λ value l. within-Some n _ l))
+      within-bind n _ _ (within-when n _ _ (within-token (is_op_of ASSIGNMENTS) n toks h)) (λ op k. within-bind n _ _ (w.expr n op.1 k) (λ operand l. within-Some n _ l))
 
   pub expr-bounded : (m : ℕ) → IsBounded (expr m p)
   unfolding expr
@@ -195,7 +195,7 @@ module _ (p : Parsers) (w : AreBounded p) where
   unfolding init
   init-bounded m n toks h = within-if n _ _ _
       (within-bind n _ _ (braces-bounded n toks h) (λ items k. within-Some n _ k))
-      (within-bind n _ _ (expr-bounded m n toks h) (λ value k. within-Some n _ k))
+      (within-bind n _ _ (expr-bounded m n toks h) (λ operand k. within-Some n _ k))
 
 pub next-bounded : (p : Parsers) → AreBounded p → (m : ℕ) → AreBounded (with_room m p)
 unfolding with_room

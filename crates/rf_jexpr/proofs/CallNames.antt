@@ -75,9 +75,9 @@ member-tokens name dot id more rest =
     sym (append_assoc (name_yield name) (dot ∷ id ∷ []) (more ++ rest)) ∙ ap (λ front. front ++ (more ++ rest)) (sym (member-yield name dot id))
 
 -- those of a call of a method of another expression
-pub dotted-tokens : (value : List Tok) (dot id : Tok) (more rest : List Tok) → ((value ++ (dot ∷ [])) ++ (id ∷ more)) ++ rest ≡ value ++ (dot ∷ id ∷ (more ++ rest))
-dotted-tokens value dot id more rest = append_assoc (value ++ (dot ∷ [])) (id ∷ more) rest ∙ append_assoc value (dot ∷ []) (id ∷ (more ++ rest))
+pub dotted-tokens : (operand : List Tok) (dot id : Tok) (more rest : List Tok) → ((operand ++ (dot ∷ [])) ++ (id ∷ more)) ++ rest ≡ operand ++ (dot ∷ id ∷ (more ++ rest))
+dotted-tokens operand dot id more rest = append_assoc (operand ++ (dot ∷ [])) (id ∷ more) rest ∙ append_assoc operand (dot ∷ []) (id ∷ (more ++ rest))
 
 -- those of an item
-pub item-tokens : (value : List Tok) (left : Tok) (index : List Tok) (right : Tok) (rest : List Tok) → (value ++ left ∷ (index ++ right ∷ [])) ++ rest ≡ value ++ left ∷ (index ++ right ∷ rest)
-item-tokens value left index right rest = append_assoc value (left ∷ (index ++ right ∷ [])) rest ∙ ap (λ others. value ++ left ∷ others) (append_assoc index (right ∷ []) rest)
+pub item-tokens : (operand : List Tok) (left : Tok) (index : List Tok) (right : Tok) (rest : List Tok) → (operand ++ left ∷ (index ++ right ∷ [])) ++ rest ≡ operand ++ left ∷ (index ++ right ∷ rest)
+item-tokens operand left index right rest = append_assoc operand (left ∷ (index ++ right ∷ [])) rest ∙ ap (λ others. operand ++ left ∷ others) (append_assoc index (right ∷ []) rest)

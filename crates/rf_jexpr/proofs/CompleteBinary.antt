@@ -14,7 +14,7 @@ use Rattle.rf_jexpr.specs.Descent.{takes_left, operation, instance, operator, bi
 use Rattle.rf_jexpr.specs.NameReads.{type_use}
 use Rattle.rf_jexpr.specs.PartReads.{Parsers}
 use Rattle.rf_jexpr.specs.Reads.{◌>>=◌, is_key, begins}
-use Rattle.rf_jexpr.specs.Stops.{joins, tests_sort, asks, assigns, Stops}
+use Rattle.rf_jexpr.specs.Stops.{joins, tests_used_type, asks, assigns, Stops}
 use Rattle.rf_jexpr.proofs.Bounded.{operator-bounded}
 use Rattle.rf_jexpr.proofs.CompleteFirst.{when-None}
 use Rattle.rf_jexpr.proofs.CompleteNames.{no_brackets, type_use-exact, type_use-far}
@@ -34,8 +34,8 @@ unfolding begins joins
 no_joins [] = refl
 no_joins (tok ∷ rest) = false_and _ _ (lt-leb UNARY_LEVEL (binary_level tok) (binary_level_less tok))
 
-no_tests : (rest : List Tok) → begins (tests_sort UNARY_LEVEL) rest ≡ false
-unfolding begins tests_sort
+no_tests : (rest : List Tok) → begins (tests_used_type UNARY_LEVEL) rest ≡ false
+unfolding begins tests_used_type
 no_tests [] = refl
 no_tests (tok ∷ rest) = refl
 
@@ -67,26 +67,26 @@ stops_unary level rest stops =
 
 abbrev IsNoOperation : ExprTree → Type 0
 IsNoOperation (Binary left op right) = ⊥
-IsNoOperation (Instance value word sort) = ⊥
+IsNoOperation (Instance operand word used_type) = ⊥
 IsNoOperation expr = Unit {0}
 
 unary_level : (expr : ExprTree) → IsNoOperation expr → OR_OR_LEVEL ≤ expr_level expr → BindsAt UNARY_LEVEL expr
 unary_level (Binary left op right) other binds = absurd other
-unary_level (Instance value word sort) other binds = absurd other
+unary_level (Instance operand word used_type) other binds = absurd other
 unary_level expr other binds = omega arith
 
 level_left : (least : ℕ) (op : Tok) (left : ExprTree) → BindsAt (binary_level op) left → least ≤ binary_level op → least ≤ expr_level left
 level_left least op left h k = omega arith
 
-level_value : (least : ℕ) (value : ExprTree) → BindsAt COMPARISON_LEVEL value → least ≤ COMPARISON_LEVEL → least ≤ expr_level value
-level_value least value h k = omega arith
+level_operand : (least : ℕ) (operand : ExprTree) → BindsAt COMPARISON_LEVEL operand → least ≤ COMPARISON_LEVEL → least ≤ expr_level operand
+level_operand least operand h k = omega arith
 
 -- An operator stops its left operand.
 before_operator : (left : ExprTree) (op : Tok) (toks : List Tok) → OR_OR_LEVEL ≤ binary_level op → BindsAt (binary_level op) left → Stops (suc (expr_level left)) (op ∷ toks)
 before_operator left op toks is binds = stops_operator (suc (expr_level left)) op toks is (omega arith)
 
-before_instanceof : (value : ExprTree) (word : Tok) (toks : List Tok) → IsKey INSTANCEOF word → BindsAt COMPARISON_LEVEL value → Stops (suc (expr_level value)) (word ∷ toks)
-before_instanceof value word toks is binds = stops_tighter SHIFT_LEVEL (suc (expr_level value)) (omega arith) (word ∷ toks) (stops_instanceof word toks is)
+before_instanceof : (operand : ExprTree) (word : Tok) (toks : List Tok) → IsKey INSTANCEOF word → BindsAt COMPARISON_LEVEL operand → Stops (suc (expr_level operand)) (word ∷ toks)
+before_instanceof operand word toks is binds = stops_tighter SHIFT_LEVEL (suc (expr_level operand)) (omega arith) (word ∷ toks) (stops_instanceof word toks is)
 
 module _ (m : ℕ) (p : Parsers) (c : AreComplete m p) (least : ℕ) (some : OR_OR_LEVEL ≤ least) where
   -- ---- a turn
@@ -98,16 +98,16 @@ module _ (m : ℕ) (p : Parsers) (c : AreComplete m p) (least : ℕ) (some : OR_
       when-true _ _ (le-leb (expr_depth left) m shallow) ∙ if-false _ _ _ (no_word INSTANCEOF op (omega arith)) ∙
       bind-Some _ _ _ _ (token-at (takes_left least left) op toks (and_true _ _ (le-leb least (binary_level op) enough) (le-leb (binary_level op) (expr_level left) binds))) h
 
-  instance_read : (value : ExprTree) (word : Tok) (toks : List Tok) → expr_depth value ≤ m → least ≤ COMPARISON_LEVEL → COMPARISON_LEVEL ≤ expr_level value → IsKey INSTANCEOF word → (z : Option (ExprTree × List Tok))
-      → (type_use toks >>= λ sort. Some (Instance value word sort.0, sort.1)) ≡ z → operator m p least value (word ∷ toks) ≡ z
+  instance_read : (operand : ExprTree) (word : Tok) (toks : List Tok) → expr_depth operand ≤ m → least ≤ COMPARISON_LEVEL → COMPARISON_LEVEL ≤ expr_level operand → IsKey INSTANCEOF word → (z : Option (ExprTree × List Tok))
+      → (type_use toks >>= λ used_type. Some (Instance operand word used_type.0, used_type.1)) ≡ z → operator m p least operand (word ∷ toks) ≡ z
   unfolding operator instance begins
-  instance_read value word toks shallow enough binds is z h =
-      when-true _ _ (le-leb (expr_depth value) m shallow) ∙ if-true _ _ _ (IsKey-is_key INSTANCEOF word is) ∙
-      bind-Some _ _ _ _ (when-true _ _ (and_true _ _ (le-leb least COMPARISON_LEVEL enough) (le-leb COMPARISON_LEVEL (expr_level value) binds)) ∙ token-at (is_key INSTANCEOF) word toks (IsKey-is_key INSTANCEOF word is)) h
+  instance_read operand word toks shallow enough binds is z h =
+      when-true _ _ (le-leb (expr_depth operand) m shallow) ∙ if-true _ _ _ (IsKey-is_key INSTANCEOF word is) ∙
+      bind-Some _ _ _ _ (when-true _ _ (and_true _ _ (le-leb least COMPARISON_LEVEL enough) (le-leb COMPARISON_LEVEL (expr_level operand) binds)) ∙ token-at (is_key INSTANCEOF) word toks (IsKey-is_key INSTANCEOF word is)) h
 
   -- and none
-  no_instance : (rest : List Tok) → begins (tests_sort least) rest ≡ false → IsTrue (begins (is_key INSTANCEOF) rest) → nat_le least COMPARISON_LEVEL ≡ false
-  unfolding begins tests_sort
+  no_instance : (rest : List Tok) → begins (tests_used_type least) rest ≡ false → IsTrue (begins (is_key INSTANCEOF) rest) → nat_le least COMPARISON_LEVEL ≡ false
+  unfolding begins tests_used_type
   no_instance [] none is = absurd (cc)
   no_instance (tok ∷ rest) none is = weaker (nat_le least COMPARISON_LEVEL) (nat_le least COMPARISON_LEVEL && is_key INSTANCEOF tok) (λ enough. and_true _ _ enough is) none
 
@@ -147,13 +147,13 @@ module _ (m : ℕ) (p : Parsers) (c : AreComplete m p) (least : ℕ) (some : OR_
       (stands left (op ∷ (expr_yield right ++ rest)) fit.1 (level_left least op left fit.0.left_binds binds) (omega arith) (before_operator left op _ fit.0.op_is fit.0.left_binds)) (omega arith) (omega arith)
       (append_assoc (expr_yield left) (op ∷ expr_yield right) rest)
       (operation_read left op _ (omega arith) binds fit.0.left_binds _ (bind-Some _ _ _ _ (right_exact op right rest fit.0.op_is fit.2 fit.0.right_binds (omega arith) stops) refl))
-  stands (Instance value word sort) rest fit binds shallow stops =
+  stands (Instance operand word used_type) rest fit binds shallow stops =
       let s = stopped SHIFT_LEVEL rest stops in
-      stands_turn m (binary m p least) (operator m p least) value (Instance value word sort) (word ∷ (type_yield sort ++ rest)) rest
-      (stands value (word ∷ (type_yield sort ++ rest)) fit.1 (level_value least value fit.0.value_binds binds) (omega arith) (before_instanceof value word _ fit.0.word_is fit.0.value_binds)) (omega arith) (omega arith)
-      (append_assoc (expr_yield value) (word ∷ type_yield sort) rest)
-      (instance_read value word _ (omega arith) binds fit.0.value_binds fit.0.word_is _ (bind-Some _ _ _ _ (type_use-exact sort rest fit.2 (s.dot, no_brackets rest s.bracket)) refl))
-  stands (Assign left op value) rest fit binds shallow stops = absurd (omega arith)
+      stands_turn m (binary m p least) (operator m p least) operand (Instance operand word used_type) (word ∷ (type_yield used_type ++ rest)) rest
+      (stands operand (word ∷ (type_yield used_type ++ rest)) fit.1 (level_operand least operand fit.0.operand_binds binds) (omega arith) (before_instanceof operand word _ fit.0.word_is fit.0.operand_binds)) (omega arith) (omega arith)
+      (append_assoc (expr_yield operand) (word ∷ type_yield used_type) rest)
+      (instance_read operand word _ (omega arith) binds fit.0.operand_binds fit.0.word_is _ (bind-Some _ _ _ _ (type_use-exact used_type rest fit.2 (s.dot, no_brackets rest s.bracket)) refl))
+  stands (Assign left op operand) rest fit binds shallow stops = absurd (omega arith)
   stands (Cond test mark first colon other) rest fit binds shallow stops = absurd (omega arith)
   stands expr rest fit binds shallow stops = at_unary expr rest fit (unary_level expr tt (omega arith)) shallow (stops_unary (suc (expr_level expr)) rest stops)
 
@@ -165,8 +165,8 @@ module _ (m : ℕ) (p : Parsers) (c : AreComplete m p) (least : ℕ) (some : OR_
       stands_over m (binary m p least) (operator m p least) expr rest
       (stands expr rest good.fits binds good.shallow (stops_tighter least (suc (expr_level expr)) (omega arith) rest stops)) (no_operator expr rest stops)
 
-  turn_far : (value expr : ExprTree) (between rest : List Tok) → StandsAt value between → expr_depth value ≤ m
-      → expr_yield expr ++ rest ≡ expr_yield value ++ between → Reaches (length rest) (operator m p least value between) → Reaches (length rest) (binary m p least (expr_yield expr ++ rest))
+  turn_far : (operand expr : ExprTree) (between rest : List Tok) → StandsAt operand between → expr_depth operand ≤ m
+      → expr_yield expr ++ rest ≡ expr_yield operand ++ between → Reaches (length rest) (operator m p least operand between) → Reaches (length rest) (binary m p least (expr_yield expr ++ rest))
   turn_far = stands_turn_far m (binary m p least) (operator m p least) (operator-bounded p c.bounded m least)
 
   unary_reach : (expr : ExprTree) (rest : List Tok) → ExprFits expr → BindsAt UNARY_LEVEL expr → expr_depth expr ≤ suc m → Reaches (length rest) (binary m p least (expr_yield expr ++ rest))
@@ -180,11 +180,11 @@ module _ (m : ℕ) (p : Parsers) (c : AreComplete m p) (least : ℕ) (some : OR_
       let far = (c.binary (binary_level op + 1) (omega arith)).far right rest (record { fits = fit; binds = right_binds; shallow = right_shallow }) in
       reaches-Some (length rest) _ (Binary left op far.to.0, far.to.1) (operation_read left op _ shallow enough binds _ (bind-Some _ _ _ _ far.reads refl)) far.left
 
-  instance_far : (value : ExprTree) (word : Tok) (sort : TypeUseTree) (rest : List Tok) → expr_depth value ≤ m → least ≤ COMPARISON_LEVEL → BindsAt COMPARISON_LEVEL value → IsKey INSTANCEOF word → TypeFits sort
-      → Reaches (length rest) (operator m p least value (word ∷ (type_yield sort ++ rest)))
-  instance_far value word sort rest shallow enough binds is fit =
-      let far = type_use-far sort rest fit in
-      reaches-Some (length rest) _ (Instance value word far.to.0, far.to.1) (instance_read value word _ shallow enough binds is _ (bind-Some _ _ _ _ far.reads refl)) far.left
+  instance_far : (operand : ExprTree) (word : Tok) (used_type : TypeUseTree) (rest : List Tok) → expr_depth operand ≤ m → least ≤ COMPARISON_LEVEL → BindsAt COMPARISON_LEVEL operand → IsKey INSTANCEOF word → TypeFits used_type
+      → Reaches (length rest) (operator m p least operand (word ∷ (type_yield used_type ++ rest)))
+  instance_far operand word used_type rest shallow enough binds is fit =
+      let far = type_use-far used_type rest fit in
+      reaches-Some (length rest) _ (Instance operand word far.to.0, far.to.1) (instance_read operand word _ shallow enough binds is _ (bind-Some _ _ _ _ far.reads refl)) far.left
 
   pub binary-far : (expr : ExprTree) (rest : List Tok) → Good least (suc m) expr → Reaches (length rest) (binary m p least (expr_yield expr ++ rest))
   binary-far expr rest good = by_form expr rest good.fits good.binds good.shallow
@@ -194,10 +194,10 @@ module _ (m : ℕ) (p : Parsers) (c : AreComplete m p) (least : ℕ) (some : OR_
           turn_far left (Binary left op right) (op ∷ (expr_yield right ++ rest)) rest
           (stands left (op ∷ (expr_yield right ++ rest)) fit.1 (level_left least op left fit.0.left_binds binds) (omega arith) (before_operator left op _ fit.0.op_is fit.0.left_binds)) (omega arith)
           (append_assoc (expr_yield left) (op ∷ expr_yield right) rest) (operation_far left op right rest (omega arith) binds fit.0.left_binds fit.2 fit.0.right_binds (omega arith))
-      by_form (Instance value word sort) rest fit binds shallow =
-          turn_far value (Instance value word sort) (word ∷ (type_yield sort ++ rest)) rest
-          (stands value (word ∷ (type_yield sort ++ rest)) fit.1 (level_value least value fit.0.value_binds binds) (omega arith) (before_instanceof value word _ fit.0.word_is fit.0.value_binds)) (omega arith)
-          (append_assoc (expr_yield value) (word ∷ type_yield sort) rest) (instance_far value word sort rest (omega arith) binds fit.0.value_binds fit.0.word_is fit.2)
-      by_form (Assign left op value) rest fit binds shallow = absurd (omega arith)
+      by_form (Instance operand word used_type) rest fit binds shallow =
+          turn_far operand (Instance operand word used_type) (word ∷ (type_yield used_type ++ rest)) rest
+          (stands operand (word ∷ (type_yield used_type ++ rest)) fit.1 (level_operand least operand fit.0.operand_binds binds) (omega arith) (before_instanceof operand word _ fit.0.word_is fit.0.operand_binds)) (omega arith)
+          (append_assoc (expr_yield operand) (word ∷ type_yield used_type) rest) (instance_far operand word used_type rest (omega arith) binds fit.0.operand_binds fit.0.word_is fit.2)
+      by_form (Assign left op operand) rest fit binds shallow = absurd (omega arith)
       by_form (Cond test mark first colon other) rest fit binds shallow = absurd (omega arith)
       by_form expr rest fit binds shallow = unary_reach expr rest fit (unary_level expr tt (omega arith)) shallow

@@ -178,9 +178,9 @@ module _ (m : ℕ) (p : Parsers) (c : AreComplete m p) where
   unfolding begins is_op
   braces_no_bracket (Braces left items comma right) rest fit = rw fit.0.0 refl
 
-  pub filled-exact : (word : Tok) (base : TypeBaseTree) (ends : Dims) (items : BracesTree) (rest : List Tok) → IsKey NEW word → BaseFits base → HasBrackets ends → DimsFit ends → GoodBraces m items
-      → first_part m p (word ∷ (base_yield base ++ (dims_yield ends ++ (braces_yield items ++ rest)))) ≡ Some (NewInit word base ends items, rest)
-  filled-exact word base ends items rest is fit some each good = by_pairs ends.list some each
+  pub filled-exact : (word : Tok) (base : TypeBaseTree) (bracket_pairs : Dims) (items : BracesTree) (rest : List Tok) → IsKey NEW word → BaseFits base → HasBrackets bracket_pairs → DimsFit bracket_pairs → GoodBraces m items
+      → first_part m p (word ∷ (base_yield base ++ (dims_yield bracket_pairs ++ (braces_yield items ++ rest)))) ≡ Some (NewInit word base bracket_pairs items, rest)
+  filled-exact word base bracket_pairs items rest is fit some each good = by_pairs bracket_pairs.list some each
     where
       by_pairs : (pairs : List (Tok × Tok)) → pairs ≢ [] → EachFits BracketsFit pairs
           → first_part m p (word ∷ (base_yield base ++ (flat_map pair_yield pairs ++ (braces_yield items ++ rest)))) ≡ Some (NewInit word base (record { list = pairs }) items, rest)
@@ -194,7 +194,7 @@ module _ (m : ℕ) (p : Parsers) (c : AreComplete m p) where
       new-read word base _ is fit (bracket_no_dot size.0 _ good.are_brackets.0) _ (if-false _ _ _ (bracket_no_paren size.0 _ good.are_brackets.0) ∙ h)
 
   -- no more sizes stand where empty brackets do, or no bracket
-  no_more_sizes : (ends : List (Tok × Tok)) (rest : List Tok) → EachFits BracketsFit ends → begins (is_op LEFT_BRACKET) rest ≡ false → sized p (flat_map pair_yield ends ++ rest) ≡ None
+  no_more_sizes : (bracket_pairs : List (Tok × Tok)) (rest : List Tok) → EachFits BracketsFit bracket_pairs → begins (is_op LEFT_BRACKET) rest ≡ false → sized p (flat_map pair_yield bracket_pairs ++ rest) ≡ None
   no_more_sizes [] rest each none = no_size m p c rest none
   no_more_sizes (pair ∷ pairs) rest each none = no_size-brackets m p c pair.0 pair.1 _ each.0
 
@@ -202,30 +202,30 @@ module _ (m : ℕ) (p : Parsers) (c : AreComplete m p) where
   some_tokens size = omega arith
 
   -- the sizes as a list
-  array-read : (word : Tok) (base : TypeBaseTree) (size : Tok × ExprTree × Tok) (sizes : List (Tok × ExprTree × Tok)) (ends : Dims) (rest : List Tok) → IsKey NEW word → BaseFits base
-      → EachFits (GoodSize m) (size ∷ sizes) → DimsFit ends → begins (is_op LEFT_BRACKET) rest ≡ false
-      → first_part m p (word ∷ (base_yield base ++ (flat_map size_yield (size ∷ sizes) ++ (dims_yield ends ++ rest)))) ≡ Some (NewArray word base (sizes_tree (size ∷ sizes)) ends, rest)
+  array-read : (word : Tok) (base : TypeBaseTree) (size : Tok × ExprTree × Tok) (sizes : List (Tok × ExprTree × Tok)) (bracket_pairs : Dims) (rest : List Tok) → IsKey NEW word → BaseFits base
+      → EachFits (GoodSize m) (size ∷ sizes) → DimsFit bracket_pairs → begins (is_op LEFT_BRACKET) rest ≡ false
+      → first_part m p (word ∷ (base_yield base ++ (flat_map size_yield (size ∷ sizes) ++ (dims_yield bracket_pairs ++ rest)))) ≡ Some (NewArray word base (sizes_tree (size ∷ sizes)) bracket_pairs, rest)
   unfolding new_array
-  array-read word base size sizes ends rest is fit each ends_fit none =
-      let all = many-exact (GoodSize m) Anything size_yield (sized p) (sized-exact m p c) (λ one others good. tt) (λ one good. some_tokens one) (size ∷ sizes) (dims_yield ends ++ rest) each (tt, no_more_sizes ends.list rest ends_fit none) in
-      reads-same (first_part m p) (ap (λ others. word ∷ (base_yield base ++ others)) (append_assoc (size_yield size) (flat_map size_yield sizes) (dims_yield ends ++ rest)))
+  array-read word base size sizes bracket_pairs rest is fit each ends_fit none =
+      let all = many-exact (GoodSize m) Anything size_yield (sized p) (sized-exact m p c) (λ one others good. tt) (λ one good. some_tokens one) (size ∷ sizes) (dims_yield bracket_pairs ++ rest) each (tt, no_more_sizes bracket_pairs.list rest ends_fit none) in
+      reads-same (first_part m p) (ap (λ others. word ∷ (base_yield base ++ others)) (append_assoc (size_yield size) (flat_map size_yield sizes) (dims_yield bracket_pairs ++ rest)))
       (sized-read word base size _ is fit each.0 _
-      (reads-same (λ toks. many (sized p) toks >>= λ found. new_array p word base found.0 found.1) (sym (append_assoc (size_yield size) (flat_map size_yield sizes) (dims_yield ends ++ rest)))
-      (bind-Some _ _ _ _ all (bind-Some _ _ _ _ (dims-exact ends rest ends_fit (no_brackets rest none)) refl))))
+      (reads-same (λ toks. many (sized p) toks >>= λ found. new_array p word base found.0 found.1) (sym (append_assoc (size_yield size) (flat_map size_yield sizes) (dims_yield bracket_pairs ++ rest)))
+      (bind-Some _ _ _ _ all (bind-Some _ _ _ _ (dims-exact bracket_pairs rest ends_fit (no_brackets rest none)) refl))))
 
-  pub array-exact : (word : Tok) (base : TypeBaseTree) (sizes : SizesTree) (ends : Dims) (rest : List Tok) → IsKey NEW word → BaseFits base → HasSize sizes → SizesFit sizes → sizes_depth sizes ≤ m
-      → DimsFit ends → begins (is_op LEFT_BRACKET) rest ≡ false → first_part m p (word ∷ (base_yield base ++ (sizes_yield sizes ++ (dims_yield ends ++ rest)))) ≡ Some (NewArray word base sizes ends, rest)
+  pub array-exact : (word : Tok) (base : TypeBaseTree) (sizes : SizesTree) (bracket_pairs : Dims) (rest : List Tok) → IsKey NEW word → BaseFits base → HasSize sizes → SizesFit sizes → sizes_depth sizes ≤ m
+      → DimsFit bracket_pairs → begins (is_op LEFT_BRACKET) rest ≡ false → first_part m p (word ∷ (base_yield base ++ (sizes_yield sizes ++ (dims_yield bracket_pairs ++ rest)))) ≡ Some (NewArray word base sizes bracket_pairs, rest)
   unfolding sizes_list
-  array-exact word base NoSizes ends rest is fit some sizes_fit shallow ends_fit none = absurd some
-  array-exact word base (Sizes left size right more) ends rest is fit some sizes_fit shallow ends_fit none =
+  array-exact word base NoSizes bracket_pairs rest is fit some sizes_fit shallow ends_fit none = absurd some
+  array-exact word base (Sizes left size right more) bracket_pairs rest is fit some sizes_fit shallow ends_fit none =
       let sizes : SizesTree = Sizes left size right more in
-      reads-same (first_part m p) (ap (λ front. word ∷ (base_yield base ++ (front ++ (dims_yield ends ++ rest)))) (sizes_yield-list sizes))
-      (array-read word base (left, size, right) (sizes_list more) ends rest is fit (sizes-good m sizes sizes_fit shallow) ends_fit none ∙
-      ap (λ found. Some (NewArray word base found ends, rest)) (sizes-same sizes))
+      reads-same (first_part m p) (ap (λ front. word ∷ (base_yield base ++ (front ++ (dims_yield bracket_pairs ++ rest)))) (sizes_yield-list sizes))
+      (array-read word base (left, size, right) (sizes_list more) bracket_pairs rest is fit (sizes-good m sizes sizes_fit shallow) ends_fit none ∙
+      ap (λ found. Some (NewArray word base found bracket_pairs, rest)) (sizes-same sizes))
 
   -- whatever follows
-  array-reach : (word : Tok) (base : TypeBaseTree) (size : Tok × ExprTree × Tok) (sizes : List (Tok × ExprTree × Tok)) (ends : List (Tok × Tok)) (rest : List Tok) → EachFits (GoodSize m) (size ∷ sizes) → EachFits BracketsFit ends
-      → Reaches (length rest) (many (sized p) (flat_map size_yield (size ∷ sizes) ++ (flat_map pair_yield ends ++ rest)) >>= λ found. new_array p word base found.0 found.1)
+  array-reach : (word : Tok) (base : TypeBaseTree) (size : Tok × ExprTree × Tok) (sizes : List (Tok × ExprTree × Tok)) (bracket_pairs : List (Tok × Tok)) (rest : List Tok) → EachFits (GoodSize m) (size ∷ sizes) → EachFits BracketsFit bracket_pairs
+      → Reaches (length rest) (many (sized p) (flat_map size_yield (size ∷ sizes) ++ (flat_map pair_yield bracket_pairs ++ rest)) >>= λ found. new_array p word base found.0 found.1)
   unfolding new_array
   array-reach word base size sizes [] rest each ends_fit =
       let n = length rest in
@@ -238,19 +238,19 @@ module _ (m : ℕ) (p : Parsers) (c : AreComplete m p) where
       let behind = reaches-bind n (dims (flat_map pair_yield (pair ∷ pairs) ++ rest)) (λ found. Some (NewArray word base (sizes_tree (size ∷ sizes)) found.0, found.1)) (dims-far (record { list = pair ∷ pairs }) rest ends_fit) (λ found k. reaches-Some n _ _ refl k) in
       reaches-Some n _ behind.to (bind-Some _ _ _ _ all behind.reads) behind.left
 
-  pub array-far : (word : Tok) (base : TypeBaseTree) (sizes : SizesTree) (ends : Dims) (rest : List Tok) → IsKey NEW word → BaseFits base → HasSize sizes → SizesFit sizes → sizes_depth sizes ≤ m
-      → DimsFit ends → Reaches (length rest) (first_part m p (word ∷ (base_yield base ++ (sizes_yield sizes ++ (dims_yield ends ++ rest)))))
+  pub array-far : (word : Tok) (base : TypeBaseTree) (sizes : SizesTree) (bracket_pairs : Dims) (rest : List Tok) → IsKey NEW word → BaseFits base → HasSize sizes → SizesFit sizes → sizes_depth sizes ≤ m
+      → DimsFit bracket_pairs → Reaches (length rest) (first_part m p (word ∷ (base_yield base ++ (sizes_yield sizes ++ (dims_yield bracket_pairs ++ rest)))))
   unfolding sizes_list
-  array-far word base NoSizes ends rest is fit some sizes_fit shallow ends_fit = absurd some
-  array-far word base (Sizes left size right more) ends rest is fit some sizes_fit shallow ends_fit =
+  array-far word base NoSizes bracket_pairs rest is fit some sizes_fit shallow ends_fit = absurd some
+  array-far word base (Sizes left size right more) bracket_pairs rest is fit some sizes_fit shallow ends_fit =
       let sizes : SizesTree = Sizes left size right more in
       let each = sizes-good m sizes sizes_fit shallow in
       let first : Tok × ExprTree × Tok = (left, size, right) in
       let others = flat_map size_yield (sizes_list more) in
-      let same = append_assoc (size_yield first) others (dims_yield ends ++ rest) in
-      let reached = array-reach word base first (sizes_list more) ends.list rest each ends_fit in
+      let same = append_assoc (size_yield first) others (dims_yield bracket_pairs ++ rest) in
+      let reached = array-reach word base first (sizes_list more) bracket_pairs.list rest each ends_fit in
       reaches-Some (length rest) _ reached.to
-      (reads-same (first_part m p) (ap (λ front. word ∷ (base_yield base ++ (front ++ (dims_yield ends ++ rest)))) (sizes_yield-list sizes) ∙ ap (λ toks. word ∷ (base_yield base ++ toks)) same)
+      (reads-same (first_part m p) (ap (λ front. word ∷ (base_yield base ++ (front ++ (dims_yield bracket_pairs ++ rest)))) (sizes_yield-list sizes) ∙ ap (λ toks. word ∷ (base_yield base ++ toks)) same)
       (sized-read word base first _ is fit each.0 _ (reads-same (λ toks. many (sized p) toks >>= λ found. new_array p word base found.0 found.1) (sym same) reached.reads))) reached.left
 
   -- ---- and the small ones
@@ -261,5 +261,5 @@ module _ (m : ℕ) (p : Parsers) (c : AreComplete m p) where
   pub this-exact : (tok : Tok) (rest : List Tok) → IsKey THIS tok → first_part m p (tok ∷ rest) ≡ Some (This tok, rest)
   this-exact = to_this m p
 
-  pub paren_first-exact : (left : Tok) (value : ExprTree) (right : Tok) (rest : List Tok) → AreParens left right → Good ASSIGNMENT_LEVEL m value → first_part m p (left ∷ (expr_yield value ++ right ∷ rest)) ≡ Some (Paren left value right, rest)
-  paren_first-exact left value right rest parens good = to_paren m p left _ parens.0 ∙ paren-exact m p c left value right rest parens good
+  pub paren_first-exact : (left : Tok) (operand : ExprTree) (right : Tok) (rest : List Tok) → AreParens left right → Good ASSIGNMENT_LEVEL m operand → first_part m p (left ∷ (expr_yield operand ++ right ∷ rest)) ≡ Some (Paren left operand right, rest)
+  paren_first-exact left operand right rest parens good = to_paren m p left _ parens.0 ∙ paren-exact m p c left operand right rest parens good

@@ -81,13 +81,13 @@ no_brackets rest h = bind-None _ _ (token-other (is_op LEFT_BRACKET) rest h)
 
 pub dims-exact : IsExact DimsFit (λ rest. brackets rest ≡ None) dims_yield dims
 unfolding dims
-dims-exact ends rest fit stops =
-    bind-Some _ _ _ _ (many-exact BracketsFit Anything pair_yield brackets brackets-exact (λ pair others is. tt) (λ pair is. omega arith) ends.list rest fit (tt, stops)) refl
+dims-exact bracket_pairs rest fit stops =
+    bind-Some _ _ _ _ (many-exact BracketsFit Anything pair_yield brackets brackets-exact (λ pair others is. tt) (λ pair is. omega arith) bracket_pairs.list rest fit (tt, stops)) refl
 
 pub dims-far : IsFar DimsFit dims_yield dims
 unfolding dims
-dims-far ends rest fit =
-    let front = many-front BracketsFit pair_yield brackets brackets-exact brackets-bounded (λ pair is. omega arith) ends.list rest fit in
+dims-far bracket_pairs rest fit =
+    let front = many-front BracketsFit pair_yield brackets brackets-exact brackets-bounded (λ pair is. omega arith) bracket_pairs.list rest fit in
     reaches-Some (length rest) _ _ (bind-Some _ _ _ _ front.reads refl) front.left
 
 -- ---- types
@@ -115,9 +115,9 @@ dims_no_dot (pair ∷ pairs) rest fit stops = rw fit.0.0 refl
 
 pub type_use-exact : IsExact TypeFits (λ rest. (begins (is_op DOT) rest ≡ false) × (brackets rest ≡ None)) type_yield type_use
 unfolding type_use
-type_use-exact sort rest fit stops = rw append_assoc
-    (bind-Some _ _ _ _ (type_base-exact sort.base (dims_yield sort.dims ++ rest) fit.0 (dims_no_dot sort.dims.list rest fit.1 stops.0))
-    (bind-Some _ _ _ _ (dims-exact sort.dims rest fit.1 stops.1) refl))
+type_use-exact used_type rest fit stops = rw append_assoc
+    (bind-Some _ _ _ _ (type_base-exact used_type.base (dims_yield used_type.dims ++ rest) fit.0 (dims_no_dot used_type.dims.list rest fit.1 stops.0))
+    (bind-Some _ _ _ _ (dims-exact used_type.dims rest fit.1 stops.1) refl))
 
 pub reaches-dims : (n : ℕ) (toks : List Tok) → length toks ≤ n → Reaches n (dims toks)
 unfolding dims
@@ -132,12 +132,12 @@ bracket_no_dot pair rest fit = rw fit.0 refl
 far_by_dims : (base : TypeBaseTree) (pairs : List (Tok × Tok)) (rest : List Tok) → BaseFits base → EachFits BracketsFit pairs → Reaches (length rest) (type_use (base_yield base ++ (flat_map pair_yield pairs ++ rest)))
 unfolding type_use
 far_by_dims base [] rest fit each =
-    reaches-bind (length rest) _ _ (type_base-far base rest fit) (λ found k. reaches-bind (length rest) _ _ (reaches-dims (length rest) found.1 k) (λ ends l. reaches-Some (length rest) _ _ refl l))
+    reaches-bind (length rest) _ _ (type_base-far base rest fit) (λ found k. reaches-bind (length rest) _ _ (reaches-dims (length rest) found.1 k) (λ bracket_pairs l. reaches-Some (length rest) _ _ refl l))
 far_by_dims base (pair ∷ pairs) rest fit each =
-    let ends : Dims = record { list = pair ∷ pairs } in
-    let reached = dims-far ends rest each in
+    let bracket_pairs : Dims = record { list = pair ∷ pairs } in
+    let reached = dims-far bracket_pairs rest each in
     reaches-Some (length rest) _ (record { base = base; dims = reached.to.0 }, reached.to.1)
-    (bind-Some _ _ _ _ (type_base-exact base (dims_yield ends ++ rest) fit (bracket_no_dot pair _ each.0)) (bind-Some _ _ _ _ reached.reads refl)) reached.left
+    (bind-Some _ _ _ _ (type_base-exact base (dims_yield bracket_pairs ++ rest) fit (bracket_no_dot pair _ each.0)) (bind-Some _ _ _ _ reached.reads refl)) reached.left
 
 pub type_use-far : IsFar TypeFits type_yield type_use
-type_use-far sort rest fit = rw append_assoc (far_by_dims sort.base sort.dims.list rest fit.0 fit.1)
+type_use-far used_type rest fit = rw append_assoc (far_by_dims used_type.base used_type.dims.list rest fit.0 fit.1)

@@ -168,11 +168,11 @@ sizes-good room (Sizes left size right rest) fit shallow = (record { are_bracket
 -- ---- the parts
 
 module _ (room : ℕ) (p : Parsers) (c : AreComplete room p) where
-  pub paren-exact : (left : Tok) (value : ExprTree) (right : Tok) (rest : List Tok) → AreParens left right → Good ASSIGNMENT_LEVEL room value → paren p (left ∷ (expr_yield value ++ right ∷ rest)) ≡ Some (Paren left value right, rest)
+  pub paren-exact : (left : Tok) (operand : ExprTree) (right : Tok) (rest : List Tok) → AreParens left right → Good ASSIGNMENT_LEVEL room operand → paren p (left ∷ (expr_yield operand ++ right ∷ rest)) ≡ Some (Paren left operand right, rest)
   unfolding paren
-  paren-exact left value right rest parens good =
+  paren-exact left operand right rest parens good =
       bind-Some _ _ _ _ (token-at (is_op LEFT_PAREN) left _ (IsOp-is_op LEFT_PAREN left parens.0))
-      (bind-Some _ _ _ _ (c.expr.exact value (right ∷ rest) good (stops_paren right rest parens.1))
+      (bind-Some _ _ _ _ (c.expr.exact operand (right ∷ rest) good (stops_paren right rest parens.1))
       (bind-Some _ _ _ _ (token-at (is_op RIGHT_PAREN) right rest (IsOp-is_op RIGHT_PAREN right parens.1)) refl))
 
   args-read : (left : Tok) (list : ExprsTree) (right : Tok) (rest : List Tok) → AreParens left right → ExprsFit list → exprs_depth list ≤ room → args p (left ∷ (exprs_yield list ++ right ∷ rest)) ≡ Some (Args left list right, rest)

@@ -28,9 +28,9 @@ use Rattle.rf_jexpr.proofs.Within.{Reaches, reaches-Some, reaches-bind, reaches-
 -- What follows goes on with no first part, and makes no arguments of this expression.
 abbrev pub Over : ExprTree → List Tok → Type 0
 Over (Name found) rest = (begins (is_op DOT) rest ≡ false) × (begins (is_op LEFT_PAREN) rest ≡ false)
-Over (Field value dot id) rest = begins (is_op LEFT_PAREN) rest ≡ false
+Over (Field operand dot id) rest = begins (is_op LEFT_PAREN) rest ≡ false
 Over (Super word dot id NoArgs) rest = begins (is_op LEFT_PAREN) rest ≡ false
-Over (NewArray word base sizes ends) rest = begins (is_op LEFT_BRACKET) rest ≡ false
+Over (NewArray word base sizes bracket_pairs) rest = begins (is_op LEFT_BRACKET) rest ≡ false
 Over expr rest = Unit {0}
 
 -- It does so for no primary expression.
@@ -41,9 +41,9 @@ pub record OverAll (rest : List Tok) : Type 0 where
 
 over : (expr : ExprTree) (rest : List Tok) → OverAll rest → Over expr rest
 over (Name found) rest all = (all.dot, all.paren)
-over (Field value dot id) rest all = all.paren
+over (Field operand dot id) rest all = all.paren
 over (Super word dot id NoArgs) rest all = all.paren
-over (NewArray word base sizes ends) rest all = all.bracket
+over (NewArray word base sizes bracket_pairs) rest all = all.bracket
 over (Super word dot id (SuperArgs list)) rest all = tt
 over expr rest all = tt
 
@@ -51,38 +51,38 @@ pub op_other : (op other : Op) (tok : Tok) (rest : List Tok) → (op.0 == other.
 unfolding begins is_op
 op_other op other tok rest h is = rw is h
 
-over_dot : (value : ExprTree) (dot : Tok) (rest : List Tok) → IsNoName value → IsOp DOT dot → Over value (dot ∷ rest)
+over_dot : (operand : ExprTree) (dot : Tok) (rest : List Tok) → IsNoName operand → IsOp DOT dot → Over operand (dot ∷ rest)
 over_dot (Name found) dot rest no_name is = absurd no_name
-over_dot (Field value inner id) dot rest no_name is = op_other DOT LEFT_PAREN dot rest refl is
+over_dot (Field operand inner id) dot rest no_name is = op_other DOT LEFT_PAREN dot rest refl is
 over_dot (Super word inner id NoArgs) dot rest no_name is = op_other DOT LEFT_PAREN dot rest refl is
 over_dot (Super word inner id (SuperArgs list)) dot rest no_name is = tt
-over_dot (NewArray word base sizes ends) dot rest no_name is = op_other DOT LEFT_BRACKET dot rest refl is
+over_dot (NewArray word base sizes bracket_pairs) dot rest no_name is = op_other DOT LEFT_BRACKET dot rest refl is
 over_dot expr dot rest no_name is = tt
 
-over_bracket : (value : ExprTree) (left : Tok) (rest : List Tok) → IsNoNewArray value → IsOp LEFT_BRACKET left → Over value (left ∷ rest)
+over_bracket : (operand : ExprTree) (left : Tok) (rest : List Tok) → IsNoNewArray operand → IsOp LEFT_BRACKET left → Over operand (left ∷ rest)
 over_bracket (Name found) left rest no_array is = (op_other LEFT_BRACKET DOT left rest refl is, op_other LEFT_BRACKET LEFT_PAREN left rest refl is)
-over_bracket (Field value inner id) left rest no_array is = op_other LEFT_BRACKET LEFT_PAREN left rest refl is
+over_bracket (Field operand inner id) left rest no_array is = op_other LEFT_BRACKET LEFT_PAREN left rest refl is
 over_bracket (Super word inner id NoArgs) left rest no_array is = op_other LEFT_BRACKET LEFT_PAREN left rest refl is
 over_bracket (Super word inner id (SuperArgs list)) left rest no_array is = tt
-over_bracket (NewArray word base sizes ends) left rest no_array is = absurd no_array
+over_bracket (NewArray word base sizes bracket_pairs) left rest no_array is = absurd no_array
 over_bracket expr left rest no_array is = tt
 
-no_name_test : (value : ExprTree) → IsNoName value → IsTrue (is_no_name value)
+no_name_test : (operand : ExprTree) → IsNoName operand → IsTrue (is_no_name operand)
 unfolding is_no_name
 no_name_test (Name found) h = absurd h
 no_name_test expr h = refl
 
-no_new_array_test : (value : ExprTree) → IsNoNewArray value → IsTrue (is_no_new_array value)
+no_new_array_test : (operand : ExprTree) → IsNoNewArray operand → IsTrue (is_no_new_array operand)
 unfolding is_no_new_array
-no_new_array_test (NewArray word base sizes ends) h = absurd h
+no_new_array_test (NewArray word base sizes bracket_pairs) h = absurd h
 no_new_array_test expr h = refl
 
 -- the tokens of new arrays
-pub array_tokens : (word : Tok) (base : TypeBaseTree) (sizes : SizesTree) (ends : Dims) (rest : List Tok) → expr_yield (NewArray word base sizes ends) ++ rest ≡ word ∷ (base_yield base ++ (sizes_yield sizes ++ (dims_yield ends ++ rest)))
-array_tokens word base sizes ends rest = ap (λ others. word ∷ others) (append_assoc (base_yield base) (sizes_yield sizes ++ dims_yield ends) rest ∙ ap (λ others. base_yield base ++ others) (append_assoc (sizes_yield sizes) (dims_yield ends) rest))
+pub array_tokens : (word : Tok) (base : TypeBaseTree) (sizes : SizesTree) (bracket_pairs : Dims) (rest : List Tok) → expr_yield (NewArray word base sizes bracket_pairs) ++ rest ≡ word ∷ (base_yield base ++ (sizes_yield sizes ++ (dims_yield bracket_pairs ++ rest)))
+array_tokens word base sizes bracket_pairs rest = ap (λ others. word ∷ others) (append_assoc (base_yield base) (sizes_yield sizes ++ dims_yield bracket_pairs) rest ∙ ap (λ others. base_yield base ++ others) (append_assoc (sizes_yield sizes) (dims_yield bracket_pairs) rest))
 
-pub filled_tokens : (word : Tok) (base : TypeBaseTree) (ends : Dims) (items : BracesTree) (rest : List Tok) → expr_yield (NewInit word base ends items) ++ rest ≡ word ∷ (base_yield base ++ (dims_yield ends ++ (braces_yield items ++ rest)))
-filled_tokens word base ends items rest = ap (λ others. word ∷ others) (append_assoc (base_yield base) (dims_yield ends ++ braces_yield items) rest ∙ ap (λ others. base_yield base ++ others) (append_assoc (dims_yield ends) (braces_yield items) rest))
+pub filled_tokens : (word : Tok) (base : TypeBaseTree) (bracket_pairs : Dims) (items : BracesTree) (rest : List Tok) → expr_yield (NewInit word base bracket_pairs items) ++ rest ≡ word ∷ (base_yield base ++ (dims_yield bracket_pairs ++ (braces_yield items ++ rest)))
+filled_tokens word base bracket_pairs items rest = ap (λ others. word ∷ others) (append_assoc (base_yield base) (dims_yield bracket_pairs ++ braces_yield items) rest ∙ ap (λ others. base_yield base ++ others) (append_assoc (dims_yield bracket_pairs) (braces_yield items) rest))
 
 -- no part follows
 module _ (m : ℕ) (p : Parsers) (c : AreComplete m p) where
@@ -139,17 +139,17 @@ module _ (m : ℕ) (p : Parsers) (c : AreComplete m p) where
   unfolding primary
   at_first expr rest h = stands_first m (primary m p) (suffix m p) expr rest (bind-Some _ _ _ _ h refl)
 
-  at_turn : (value expr : ExprTree) (between rest : List Tok) → StandsAt value between → expr_depth value ≤ m → suc (expr_depth value) ≤ expr_depth expr
-      → expr_yield expr ++ rest ≡ expr_yield value ++ between → suffix m p value between ≡ Some (expr, rest) → StandsAt expr rest
+  at_turn : (operand expr : ExprTree) (between rest : List Tok) → StandsAt operand between → expr_depth operand ≤ m → suc (expr_depth operand) ≤ expr_depth expr
+      → expr_yield expr ++ rest ≡ expr_yield operand ++ between → suffix m p operand between ≡ Some (expr, rest) → StandsAt expr rest
   at_turn = stands_turn m (primary m p) (suffix m p)
 
   -- a call of a method of an expression
-  at_call : (value : ExprTree) (dot id : Tok) (list : ArgsTree) (rest : List Tok) → ExprFits value → IsOp DOT dot → IsIdent id → GoodArgs m list → expr_depth value ≤ m
-      → (IsNoName value → StandsAt value (dot ∷ id ∷ (args_yield list ++ rest))) → StandsAt (Call (On value dot) id list) rest
+  at_call : (operand : ExprTree) (dot id : Tok) (list : ArgsTree) (rest : List Tok) → ExprFits operand → IsOp DOT dot → IsIdent id → GoodArgs m list → expr_depth operand ≤ m
+      → (IsNoName operand → StandsAt operand (dot ∷ id ∷ (args_yield list ++ rest))) → StandsAt (Call (On operand dot) id list) rest
   at_call (Name found) dot id list rest fit dot_is id_is good shallow otherwise =
       at_first (Call (On (Name found) dot) id list) rest (reads-same (first_part m p) (member-tokens found dot id (args_yield list) rest) (member-exact m p c found dot id list rest fit dot_is id_is good shallow))
-  at_call value dot id list rest fit dot_is id_is good shallow otherwise =
-      at_turn value (Call (On value dot) id list) (dot ∷ id ∷ (args_yield list ++ rest)) rest (otherwise tt) shallow (omega arith) (dotted-tokens (expr_yield value) dot id (args_yield list) rest) (call_turn value dot id list rest shallow dot_is id_is good)
+  at_call operand dot id list rest fit dot_is id_is good shallow otherwise =
+      at_turn operand (Call (On operand dot) id list) (dot ∷ id ∷ (args_yield list ++ rest)) rest (otherwise tt) shallow (omega arith) (dotted-tokens (expr_yield operand) dot id (args_yield list) rest) (call_turn operand dot id list rest shallow dot_is id_is good)
 
   good_args : (list : ArgsTree) → ArgsFit list → args_depth list ≤ m → GoodArgs m list
   good_args list fit shallow = record { fits = fit; shallow = shallow }
@@ -158,36 +158,36 @@ module _ (m : ℕ) (p : Parsers) (c : AreComplete m p) where
   good_expr expr fit shallow = record { fits = fit; binds = omega arith; shallow = shallow }
 
   pub stands : (expr : ExprTree) (rest : List Tok) → ExprFits expr → BindsAt PRIMARY_LEVEL expr → expr_depth expr ≤ suc m → Over expr rest → StandsAt expr rest
-  stands (Assign left op value) rest fit binds shallow ends = absurd (omega arith)
-  stands (Cond test mark first colon other) rest fit binds shallow ends = absurd (omega arith)
-  stands (Binary left op right) rest fit binds shallow ends = let less = binary_level_less op in absurd (omega arith)
-  stands (Instance value word sort) rest fit binds shallow ends = absurd (omega arith)
-  stands (Unary op value) rest fit binds shallow ends = absurd (omega arith)
-  stands (Cast left sort right value) rest fit binds shallow ends = absurd (omega arith)
-  stands (Postfix value op) rest fit binds shallow ends = absurd (omega arith)
-  stands (Lit tok) rest fit binds shallow ends = at_first (Lit tok) rest (literal-exact m p c tok rest fit)
-  stands (This tok) rest fit binds shallow ends = at_first (This tok) rest (this-exact m p c tok rest fit)
-  stands (Paren left value right) rest fit binds shallow ends =
-      at_first (Paren left value right) rest (reads-same (first_part m p) (ap (λ others. left ∷ others) (append_assoc (expr_yield value) (right ∷ []) rest)) (paren_first-exact m p c left value right rest fit.0 (good_expr value fit.1 (omega arith))))
-  stands (Name found) rest fit binds shallow ends = at_first (Name found) rest (named-exact m p c found rest fit ends.0 ends.1)
-  stands (Call NoOn id list) rest fit binds shallow ends = at_first (Call NoOn id list) rest (method-exact m p c id list rest fit.1 (good_args list fit.2 (omega arith)))
-  stands (Call (On value dot) id list) rest fit binds shallow ends =
-      at_call value dot id list rest fit.0.1 fit.0.0.dot_is fit.1 (good_args list fit.2 (omega arith)) (omega arith)
-      (λ no_name. stands value (dot ∷ id ∷ (args_yield list ++ rest)) fit.0.1 fit.0.0.primary (omega arith) (over_dot value dot _ no_name fit.0.0.dot_is))
-  stands (Field value dot id) rest fit binds shallow ends =
-      at_turn value (Field value dot id) (dot ∷ id ∷ rest) rest (stands value (dot ∷ id ∷ rest) fit.1 fit.0.primary (omega arith) (over_dot value dot _ fit.0.no_name fit.0.dot_is)) (omega arith) (omega arith)
-      (append_assoc (expr_yield value) (dot ∷ id ∷ []) rest) (field_turn value dot id rest (omega arith) fit.0.dot_is fit.0.id_is fit.0.no_name ends)
-  stands (Super word dot id NoArgs) rest fit binds shallow ends = at_first (Super word dot id NoArgs) rest (super_field-exact m p c word dot id rest fit.0 ends)
-  stands (Super word dot id (SuperArgs list)) rest fit binds shallow ends = at_first (Super word dot id (SuperArgs list)) rest (super_call-exact m p c word dot id list rest fit.0 (good_args list fit.1 (omega arith)))
-  stands (New word class list) rest fit binds shallow ends =
+  stands (Assign left op operand) rest fit binds shallow stops = absurd (omega arith)
+  stands (Cond test mark first colon other) rest fit binds shallow stops = absurd (omega arith)
+  stands (Binary left op right) rest fit binds shallow stops = let less = binary_level_less op in absurd (omega arith)
+  stands (Instance operand word used_type) rest fit binds shallow stops = absurd (omega arith)
+  stands (Unary op operand) rest fit binds shallow stops = absurd (omega arith)
+  stands (Cast left used_type right operand) rest fit binds shallow stops = absurd (omega arith)
+  stands (Postfix operand op) rest fit binds shallow stops = absurd (omega arith)
+  stands (Lit tok) rest fit binds shallow stops = at_first (Lit tok) rest (literal-exact m p c tok rest fit)
+  stands (This tok) rest fit binds shallow stops = at_first (This tok) rest (this-exact m p c tok rest fit)
+  stands (Paren left operand right) rest fit binds shallow stops =
+      at_first (Paren left operand right) rest (reads-same (first_part m p) (ap (λ others. left ∷ others) (append_assoc (expr_yield operand) (right ∷ []) rest)) (paren_first-exact m p c left operand right rest fit.0 (good_expr operand fit.1 (omega arith))))
+  stands (Name found) rest fit binds shallow stops = at_first (Name found) rest (named-exact m p c found rest fit stops.0 stops.1)
+  stands (Call NoOn id list) rest fit binds shallow stops = at_first (Call NoOn id list) rest (method-exact m p c id list rest fit.1 (good_args list fit.2 (omega arith)))
+  stands (Call (On operand dot) id list) rest fit binds shallow stops =
+      at_call operand dot id list rest fit.0.1 fit.0.0.dot_is fit.1 (good_args list fit.2 (omega arith)) (omega arith)
+      (λ no_name. stands operand (dot ∷ id ∷ (args_yield list ++ rest)) fit.0.1 fit.0.0.primary (omega arith) (over_dot operand dot _ no_name fit.0.0.dot_is))
+  stands (Field operand dot id) rest fit binds shallow stops =
+      at_turn operand (Field operand dot id) (dot ∷ id ∷ rest) rest (stands operand (dot ∷ id ∷ rest) fit.1 fit.0.primary (omega arith) (over_dot operand dot _ fit.0.no_name fit.0.dot_is)) (omega arith) (omega arith)
+      (append_assoc (expr_yield operand) (dot ∷ id ∷ []) rest) (field_turn operand dot id rest (omega arith) fit.0.dot_is fit.0.id_is fit.0.no_name stops)
+  stands (Super word dot id NoArgs) rest fit binds shallow stops = at_first (Super word dot id NoArgs) rest (super_field-exact m p c word dot id rest fit.0 stops)
+  stands (Super word dot id (SuperArgs list)) rest fit binds shallow stops = at_first (Super word dot id (SuperArgs list)) rest (super_call-exact m p c word dot id list rest fit.0 (good_args list fit.1 (omega arith)))
+  stands (New word class list) rest fit binds shallow stops =
       at_first (New word class list) rest (reads-same (first_part m p) (ap (λ others. word ∷ others) (append_assoc (name_yield class) (args_yield list) rest)) (new-exact m p c word class list rest fit.0 fit.1 (good_args list fit.2 (omega arith))))
-  stands (Index value left index right) rest fit binds shallow ends =
-      at_turn value (Index value left index right) (left ∷ (expr_yield index ++ right ∷ rest)) rest (stands value (left ∷ (expr_yield index ++ right ∷ rest)) fit.1 fit.0.primary (omega arith) (over_bracket value left _ fit.0.no_new_array fit.0.brackets.0)) (omega arith) (omega arith)
-      (item-tokens (expr_yield value) left (expr_yield index) right rest) (item_turn value left index right rest (omega arith) fit.0.no_new_array fit.0.brackets (good_expr index fit.2 (omega arith)))
-  stands (NewArray word base sizes ends) rest fit binds shallow over =
-      at_first (NewArray word base sizes ends) rest (reads-same (first_part m p) (array_tokens word base sizes ends rest) (array-exact m p c word base sizes ends rest fit.0 fit.1 fit.2 fit.3 (omega arith) fit.4 over))
-  stands (NewInit word base ends items) rest fit binds shallow over =
-      at_first (NewInit word base ends items) rest (reads-same (first_part m p) (filled_tokens word base ends items rest) (filled-exact m p c word base ends items rest fit.0 fit.1 fit.2 fit.3 (record { fits = fit.4; shallow = omega arith })))
+  stands (Index operand left index right) rest fit binds shallow stops =
+      at_turn operand (Index operand left index right) (left ∷ (expr_yield index ++ right ∷ rest)) rest (stands operand (left ∷ (expr_yield index ++ right ∷ rest)) fit.1 fit.0.primary (omega arith) (over_bracket operand left _ fit.0.no_new_array fit.0.brackets.0)) (omega arith) (omega arith)
+      (item-tokens (expr_yield operand) left (expr_yield index) right rest) (item_turn operand left index right rest (omega arith) fit.0.no_new_array fit.0.brackets (good_expr index fit.2 (omega arith)))
+  stands (NewArray word base sizes bracket_pairs) rest fit binds shallow over =
+      at_first (NewArray word base sizes bracket_pairs) rest (reads-same (first_part m p) (array_tokens word base sizes bracket_pairs rest) (array-exact m p c word base sizes bracket_pairs rest fit.0 fit.1 fit.2 fit.3 (omega arith) fit.4 over))
+  stands (NewInit word base bracket_pairs items) rest fit binds shallow over =
+      at_first (NewInit word base bracket_pairs items) rest (reads-same (first_part m p) (filled_tokens word base bracket_pairs items rest) (filled-exact m p c word base bracket_pairs items rest fit.0 fit.1 fit.2 fit.3 (record { fits = fit.4; shallow = omega arith })))
 
   -- ---- the reader
 
@@ -207,10 +207,10 @@ module _ (m : ℕ) (p : Parsers) (c : AreComplete m p) where
   primary-far (Name found) rest fit binds shallow = first_far rest _ (named-far m p c found rest fit)
   primary-far (Super word dot id NoArgs) rest fit binds shallow = first_far rest _ (super_field-far m p c word dot id rest fit.0)
   primary-far (Super word dot id (SuperArgs list)) rest fit binds shallow = over_far _ rest (stands (Super word dot id (SuperArgs list)) rest fit binds shallow tt)
-  primary-far (Field value dot id) rest fit binds shallow =
-      stands_turn_far m (primary m p) (suffix m p) (suffix-bounded p c.bounded m) value (Field value dot id) (dot ∷ id ∷ rest) rest
-      (stands value (dot ∷ id ∷ rest) fit.1 fit.0.primary (omega arith) (over_dot value dot _ fit.0.no_name fit.0.dot_is)) (omega arith)
-      (append_assoc (expr_yield value) (dot ∷ id ∷ []) rest) (field_turn_far value dot id rest (omega arith) fit.0.dot_is fit.0.id_is fit.0.no_name)
-  primary-far (NewArray word base sizes ends) rest fit binds shallow =
-      first_far rest _ (subst (λ (toks : List Tok). Reaches (length rest) (first_part m p toks)) (sym (array_tokens word base sizes ends rest)) (array-far m p c word base sizes ends rest fit.0 fit.1 fit.2 fit.3 (omega arith) fit.4))
+  primary-far (Field operand dot id) rest fit binds shallow =
+      stands_turn_far m (primary m p) (suffix m p) (suffix-bounded p c.bounded m) operand (Field operand dot id) (dot ∷ id ∷ rest) rest
+      (stands operand (dot ∷ id ∷ rest) fit.1 fit.0.primary (omega arith) (over_dot operand dot _ fit.0.no_name fit.0.dot_is)) (omega arith)
+      (append_assoc (expr_yield operand) (dot ∷ id ∷ []) rest) (field_turn_far operand dot id rest (omega arith) fit.0.dot_is fit.0.id_is fit.0.no_name)
+  primary-far (NewArray word base sizes bracket_pairs) rest fit binds shallow =
+      first_far rest _ (subst (λ (toks : List Tok). Reaches (length rest) (first_part m p toks)) (sym (array_tokens word base sizes bracket_pairs rest)) (array-far m p c word base sizes bracket_pairs rest fit.0 fit.1 fit.2 fit.3 (omega arith) fit.4))
   primary-far expr rest fit binds shallow = over_far expr rest (stands expr rest fit binds shallow tt)

@@ -5,7 +5,7 @@ use Rattle.rf_jtree.specs.declared.tokens.Tok.{Tok}
 use Rattle.rf_jtree.specs.declared.levels.TheConstants.{ASSIGNMENT_LEVEL, CONDITIONAL_LEVEL, UNARY_LEVEL}
 use Rattle.rf_jtree.specs.declared.operator_names.TheConstants.{LEFT_PAREN, LEFT_BRACE, PREFIXES}
 use Rattle.rf_jtree.specs.ExprFits.{ExprFits, BracesFit}
-use Rattle.rf_jtree.specs.ExprTrees.{ExprTree, Lit, InitTree, Value, Braced, BracesTree, Braces, expr_yield, init_yield, braces_yield, expr_depth, braces_depth}
+use Rattle.rf_jtree.specs.ExprTrees.{ExprTree, Lit, InitTree, Expression, Braced, BracesTree, Braces, expr_yield, init_yield, braces_yield, expr_depth, braces_depth}
 use Rattle.rf_jtree.specs.Kinds.{IsOp, is_op_of, has_op}
 use Rattle.rf_jexpr.specs.Descent.{cast, postfix, unary, binary, conditional, expr, init, nothing, with_room, parsers}
 use Rattle.rf_jexpr.specs.NameReads.{name}
@@ -81,22 +81,22 @@ module _ (m : ℕ) (p : Parsers) (c : AreComplete m p) where
   unfolding begins
   braces_begin (Braces left list comma right) rest fit = IsOp-is_op LEFT_BRACE left fit.0.0
 
-  init_value : (value : ExprTree) (rest : List Tok) → ExprFits value → (z : Option (InitTree × List Tok)) → (expr m p (expr_yield value ++ rest) >>= λ value. Some (Value value.0, value.1)) ≡ z → init m p (expr_yield value ++ rest) ≡ z
+  init_operand : (operand : ExprTree) (rest : List Tok) → ExprFits operand → (z : Option (InitTree × List Tok)) → (expr m p (expr_yield operand ++ rest) >>= λ operand. Some (Expression operand.0, operand.1)) ≡ z → init m p (expr_yield operand ++ rest) ≡ z
   unfolding init
-  init_value value rest fit z h = if-false _ _ _ (begins_no_brace value rest fit) ∙ h
+  init_operand operand rest fit z h = if-false _ _ _ (begins_no_brace operand rest fit) ∙ h
 
   init_braced : (items : BracesTree) (rest : List Tok) → BracesFit items → braces_depth items ≤ m → init m p (braces_yield items ++ rest) ≡ Some (Braced items, rest)
   unfolding init
   init_braced items rest fit shallow = if-true _ _ _ (braces_begin items rest fit) ∙ bind-Some _ _ _ _ (braces-exact m p c items rest (record { fits = fit; shallow = shallow }) tt) refl
 
   init_read : IsExact (GoodInit (suc m)) (Stops ASSIGNMENT_LEVEL) init_yield (init m p)
-  init_read (Value value) rest good stops = init_value value rest good.fits _ (bind-Some _ _ _ _ (expr_read m p c value rest good.fits good.shallow stops) refl)
+  init_read (Expression operand) rest good stops = init_operand operand rest good.fits _ (bind-Some _ _ _ _ (expr_read m p c operand rest good.fits good.shallow stops) refl)
   init_read (Braced items) rest good stops = let shallow : braces_depth items + 1 ≤ suc m = good.shallow in init_braced items rest good.fits (omega arith)
 
   init_reach : IsFar (GoodInit (suc m)) init_yield (init m p)
-  init_reach (Value value) rest good =
-      let far = expr_reach m p c value rest good.fits good.shallow in
-      reaches-Some (length rest) _ (Value far.to.0, far.to.1) (init_value value rest good.fits _ (bind-Some _ _ _ _ far.reads refl)) far.left
+  init_reach (Expression operand) rest good =
+      let far = expr_reach m p c operand rest good.fits good.shallow in
+      reaches-Some (length rest) _ (Expression far.to.0, far.to.1) (init_operand operand rest good.fits _ (bind-Some _ _ _ _ far.reads refl)) far.left
   init_reach (Braced items) rest good = let shallow : braces_depth items + 1 ≤ suc m = good.shallow in reaches-Some (length rest) _ (Braced items, rest) (init_braced items rest good.fits (omega arith)) (le_refl (length rest))
 
   -- ---- one room more
@@ -130,7 +130,7 @@ no_room : (level : ℕ) (tree : ExprTree) → Good level 0 tree → ⊥
 no_room level tree good = let some = some_depth tree in let shallow : expr_depth tree ≤ 0 = good.shallow in omega arith
 
 no_room_init : (tree : InitTree) → GoodInit 0 tree → ⊥
-no_room_init (Value value) good = no_room ASSIGNMENT_LEVEL value (record { fits = good.fits; binds = omega arith; shallow = good.shallow })
+no_room_init (Expression operand) good = no_room ASSIGNMENT_LEVEL operand (record { fits = good.fits; binds = omega arith; shallow = good.shallow })
 no_room_init (Braced items) good = let shallow : braces_depth items + 1 ≤ 0 = good.shallow in omega arith
 
 nothing_complete : (level : ℕ) (read : Reads ExprTree) → Completes (Good level 0) (Stops level) expr_yield read

@@ -92,17 +92,17 @@ module _ (m : ℕ) (p : Parsers) (c : AreComplete m p) where
   left_side_test : (left : ExprTree) → IsLeftSide left → IsTrue (is_left_side left)
   unfolding is_left_side
   left_side_test (Name found) h = refl
-  left_side_test (Field value dot id) h = refl
+  left_side_test (Field operand dot id) h = refl
   left_side_test (Super word dot id NoArgs) h = refl
   left_side_test (Super word dot id (SuperArgs list)) h = absurd h
-  left_side_test (Index value left index right) h = refl
+  left_side_test (Index operand left index right) h = refl
   left_side_test expr h = absurd h
 
   left_side_level : (left : ExprTree) → IsLeftSide left → BindsAt CONDITIONAL_LEVEL left
   left_side_level (Name found) h = omega arith
-  left_side_level (Field value dot id) h = omega arith
+  left_side_level (Field operand dot id) h = omega arith
   left_side_level (Super word dot id list) h = omega arith
-  left_side_level (Index value left index right) h = omega arith
+  left_side_level (Index operand left index right) h = omega arith
   left_side_level expr h = absurd h
 
   no_assignment : (left : ExprTree) (rest : List Tok) → Stops ASSIGNMENT_LEVEL rest → assignment m p left rest ≡ None
@@ -111,18 +111,18 @@ module _ (m : ℕ) (p : Parsers) (c : AreComplete m p) where
       bind-None _ _ (when-None _ _ (token-other (is_op_of ASSIGNMENTS) rest (begins_weaker (is_op_of ASSIGNMENTS) (assigns ASSIGNMENT_LEVEL) (λ tok h. h) rest (stopped ASSIGNMENT_LEVEL rest stops).assignment)))
 
   assign_read : (left : ExprTree) (op : Tok) (toks : List Tok) → ExprFits left → IsLeftSide left → expr_depth left ≤ m → IsTrue (is_op_of ASSIGNMENTS op) → (z : ExprTree × List Tok)
-      → (p.expr toks >>= λ value. Some (Assign left op value.0, value.1)) ≡ Some z → expr m p (expr_yield left ++ op ∷ toks) ≡ Some z
+      → (p.expr toks >>= λ operand. Some (Assign left op operand.0, operand.1)) ≡ Some z → expr m p (expr_yield left ++ op ∷ toks) ≡ Some z
   unfolding expr assignment
   assign_read left op toks fit side shallow is z h =
       bind-Some _ _ _ _ (conditional_read left (op ∷ toks) fit (left_side_level left side) (omega arith) (stops_assigns op toks is))
       (else-Some _ _ _ (bind-Some _ _ _ _ (when-true _ _ (and_true _ _ (left_side_test left side) (le-leb (expr_depth left) m shallow)) ∙ token-at (is_op_of ASSIGNMENTS) op toks is) h))
 
   abbrev IsNoAssign : ExprTree → Type 0
-  IsNoAssign (Assign left op value) = ⊥
+  IsNoAssign (Assign left op operand) = ⊥
   IsNoAssign expr = Unit {0}
 
   conditional_level : (expr : ExprTree) → IsNoAssign expr → ExprFits expr → BindsAt CONDITIONAL_LEVEL expr
-  conditional_level (Assign left op value) no_assign fit = absurd no_assign
+  conditional_level (Assign left op operand) no_assign fit = absurd no_assign
   conditional_level (Binary left op right) no_assign fit = let is : OR_OR_LEVEL ≤ binary_level op = fit.0.op_is in omega arith
   conditional_level expr no_assign fit = omega arith
 
@@ -132,9 +132,9 @@ module _ (m : ℕ) (p : Parsers) (c : AreComplete m p) where
       bind-Some _ _ _ _ (conditional_read tree rest fit binds shallow (stops_tighter ASSIGNMENT_LEVEL CONDITIONAL_LEVEL (omega arith) rest stops)) (else-None _ _ (no_assignment tree rest stops))
 
   pub expr_read : (tree : ExprTree) (rest : List Tok) → ExprFits tree → expr_depth tree ≤ suc m → Stops ASSIGNMENT_LEVEL rest → expr m p (expr_yield tree ++ rest) ≡ Some (tree, rest)
-  expr_read (Assign left op value) rest fit shallow stops =
-      reads-same (expr m p) (append_assoc (expr_yield left) (op ∷ expr_yield value) rest)
-      (assign_read left op _ fit.1 fit.0.left_side (omega arith) fit.0.op_is _ (bind-Some _ _ _ _ (c.expr.exact value rest (good_at ASSIGNMENT_LEVEL m value fit.2 (omega arith) (omega arith)) stops) refl))
+  expr_read (Assign left op operand) rest fit shallow stops =
+      reads-same (expr m p) (append_assoc (expr_yield left) (op ∷ expr_yield operand) rest)
+      (assign_read left op _ fit.1 fit.0.left_side (omega arith) fit.0.op_is _ (bind-Some _ _ _ _ (c.expr.exact operand rest (good_at ASSIGNMENT_LEVEL m operand fit.2 (omega arith) (omega arith)) stops) refl))
   expr_read tree rest fit shallow stops = conditional_alone tree rest fit (conditional_level tree tt fit) shallow stops
 
   conditional_far : (tree : ExprTree) (rest : List Tok) → ExprFits tree → BindsAt CONDITIONAL_LEVEL tree → expr_depth tree ≤ suc m → Reaches (length rest) (expr m p (expr_yield tree ++ rest))
@@ -143,13 +143,13 @@ module _ (m : ℕ) (p : Parsers) (c : AreComplete m p) where
       let n = length rest in
       reaches-bind n _ _ (conditional_reach tree rest fit binds shallow) (λ left k. reaches-else n _ _ (assignment-bounded p c.bounded m left.0 n left.1 k) (reaches-Some n _ _ refl k))
 
-  assign_reach : (left : ExprTree) (op : Tok) (value : ExprTree) (rest : List Tok) → ExprFits left → IsLeftSide left → expr_depth left ≤ m → IsTrue (is_op_of ASSIGNMENTS op)
-      → Reaches (length rest) (p.expr (expr_yield value ++ rest)) → Reaches (length rest) (expr m p (expr_yield (Assign left op value) ++ rest))
-  assign_reach left op value rest fit side shallow is far =
-      reaches-Some (length rest) _ (Assign left op far.to.0, far.to.1) (reads-same (expr m p) (append_assoc (expr_yield left) (op ∷ expr_yield value) rest)
+  assign_reach : (left : ExprTree) (op : Tok) (operand : ExprTree) (rest : List Tok) → ExprFits left → IsLeftSide left → expr_depth left ≤ m → IsTrue (is_op_of ASSIGNMENTS op)
+      → Reaches (length rest) (p.expr (expr_yield operand ++ rest)) → Reaches (length rest) (expr m p (expr_yield (Assign left op operand) ++ rest))
+  assign_reach left op operand rest fit side shallow is far =
+      reaches-Some (length rest) _ (Assign left op far.to.0, far.to.1) (reads-same (expr m p) (append_assoc (expr_yield left) (op ∷ expr_yield operand) rest)
       (assign_read left op _ fit side shallow is _ (bind-Some _ _ _ _ far.reads refl))) far.left
 
   pub expr_reach : (tree : ExprTree) (rest : List Tok) → ExprFits tree → expr_depth tree ≤ suc m → Reaches (length rest) (expr m p (expr_yield tree ++ rest))
-  expr_reach (Assign left op value) rest fit shallow =
-      assign_reach left op value rest fit.1 fit.0.left_side (omega arith) fit.0.op_is (c.expr.far value rest (good_at ASSIGNMENT_LEVEL m value fit.2 (omega arith) (omega arith)))
+  expr_reach (Assign left op operand) rest fit shallow =
+      assign_reach left op operand rest fit.1 fit.0.left_side (omega arith) fit.0.op_is (c.expr.far operand rest (good_at ASSIGNMENT_LEVEL m operand fit.2 (omega arith) (omega arith)))
   expr_reach tree rest fit shallow = conditional_far tree rest fit (conditional_level tree tt fit) shallow

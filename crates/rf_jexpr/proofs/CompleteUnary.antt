@@ -30,22 +30,22 @@ use Rattle.rf_jexpr.proofs.Within.{Reaches, reaches-Some, reaches-bind, reaches-
 -- ---- levels
 
 abbrev IsNoPostfix : ExprTree → Type 0
-IsNoPostfix (Postfix value op) = ⊥
+IsNoPostfix (Postfix operand op) = ⊥
 IsNoPostfix expr = Unit {0}
 
 primary_level : (expr : ExprTree) → IsNoPostfix expr → BindsAt POSTFIX_LEVEL expr → BindsAt PRIMARY_LEVEL expr
-primary_level (Postfix value op) other binds = absurd other
+primary_level (Postfix operand op) other binds = absurd other
 primary_level (Binary left op right) other binds = let less = binary_level_less op in absurd (omega arith)
 primary_level expr other binds = omega arith
 
 abbrev IsNoUnary : ExprTree → Type 0
-IsNoUnary (Unary op value) = ⊥
-IsNoUnary (Cast left sort right value) = ⊥
+IsNoUnary (Unary op operand) = ⊥
+IsNoUnary (Cast left used_type right operand) = ⊥
 IsNoUnary expr = Unit {0}
 
 postfix_level : (expr : ExprTree) → IsNoUnary expr → BindsAt UNARY_LEVEL expr → BindsAt POSTFIX_LEVEL expr
-postfix_level (Unary op value) other binds = absurd other
-postfix_level (Cast left sort right value) other binds = absurd other
+postfix_level (Unary op operand) other binds = absurd other
+postfix_level (Cast left used_type right operand) other binds = absurd other
 postfix_level (Binary left op right) other binds = let less = binary_level_less op in absurd (omega arith)
 postfix_level expr other binds = omega arith
 
@@ -76,13 +76,13 @@ module _ (m : ℕ) (p : Parsers) (c : AreComplete m p) where
   abbrev StandsAt : ExprTree → List Tok → Type 0
   StandsAt = Stands m (postfix m p) (step m)
 
-  step_turn : (value : ExprTree) (op : Tok) (rest : List Tok) → expr_depth value ≤ m → IsTrue (is_op_of SUFFIXES op) → step m value (op ∷ rest) ≡ Some (Postfix value op, rest)
+  step_turn : (operand : ExprTree) (op : Tok) (rest : List Tok) → expr_depth operand ≤ m → IsTrue (is_op_of SUFFIXES op) → step m operand (op ∷ rest) ≡ Some (Postfix operand op, rest)
   unfolding step
-  step_turn value op rest shallow is = when-true _ _ (le-leb (expr_depth value) m shallow) ∙ bind-Some _ _ _ _ (token-at (is_op_of SUFFIXES) op rest is) refl
+  step_turn operand op rest shallow is = when-true _ _ (le-leb (expr_depth operand) m shallow) ∙ bind-Some _ _ _ _ (token-at (is_op_of SUFFIXES) op rest is) refl
 
-  no_step : (value : ExprTree) (rest : List Tok) → begins (is_op_of SUFFIXES) rest ≡ false → step m value rest ≡ None
+  no_step : (operand : ExprTree) (rest : List Tok) → begins (is_op_of SUFFIXES) rest ≡ false → step m operand rest ≡ None
   unfolding step
-  no_step value rest h = when-None _ _ (bind-None _ _ (token-other (is_op_of SUFFIXES) rest h))
+  no_step operand rest h = when-None _ _ (bind-None _ _ (token-other (is_op_of SUFFIXES) rest h))
 
   at_primary : (expr : ExprTree) (rest : List Tok) → ExprFits expr → BindsAt PRIMARY_LEVEL expr → expr_depth expr ≤ suc m → OverAll rest → StandsAt expr rest
   unfolding postfix
@@ -90,18 +90,18 @@ module _ (m : ℕ) (p : Parsers) (c : AreComplete m p) where
 
   -- what ends a primary expression
   abbrev Over : ExprTree → List Tok → Type 0
-  Over (Postfix value op) rest = Unit {0}
+  Over (Postfix operand op) rest = Unit {0}
   Over expr rest = OverAll rest
 
   over : (expr : ExprTree) (rest : List Tok) → OverAll rest → Over expr rest
-  over (Postfix value op) rest all = tt
+  over (Postfix operand op) rest all = tt
   over expr rest all = all
 
   stands : (expr : ExprTree) (rest : List Tok) → ExprFits expr → BindsAt POSTFIX_LEVEL expr → expr_depth expr ≤ suc m → Over expr rest → StandsAt expr rest
-  stands (Postfix value op) rest fit binds shallow all =
-      stands_turn m (postfix m p) (step m) value (Postfix value op) (op ∷ rest) rest
-      (stands value (op ∷ rest) fit.1 fit.0.value_binds (omega arith) (over value (op ∷ rest) (suffix_over op rest fit.0.op_is))) (omega arith) (omega arith)
-      (append_assoc (expr_yield value) (op ∷ []) rest) (step_turn value op rest (omega arith) fit.0.op_is)
+  stands (Postfix operand op) rest fit binds shallow all =
+      stands_turn m (postfix m p) (step m) operand (Postfix operand op) (op ∷ rest) rest
+      (stands operand (op ∷ rest) fit.1 fit.0.operand_binds (omega arith) (over operand (op ∷ rest) (suffix_over op rest fit.0.op_is))) (omega arith) (omega arith)
+      (append_assoc (expr_yield operand) (op ∷ []) rest) (step_turn operand op rest (omega arith) fit.0.op_is)
   stands (Binary left op right) rest fit binds shallow all = let less = binary_level_less op in absurd (omega arith)
   stands expr rest fit binds shallow all = at_primary expr rest fit (primary_level expr tt binds) shallow all
 
@@ -111,17 +111,17 @@ module _ (m : ℕ) (p : Parsers) (c : AreComplete m p) where
   primary_reach : (expr : ExprTree) (rest : List Tok) → ExprFits expr → BindsAt PRIMARY_LEVEL expr → expr_depth expr ≤ suc m → Reaches (length rest) (postfix m p (expr_yield expr ++ rest))
   unfolding postfix
   primary_reach expr rest fit binds shallow =
-      reaches-bind (length rest) _ _ (primary-far m p c expr rest fit binds shallow) (λ value k. reaches-chain (step m) (step-bounded p c.bounded m) (suc m) (length rest) value.0 value.1 k)
+      reaches-bind (length rest) _ _ (primary-far m p c expr rest fit binds shallow) (λ operand k. reaches-chain (step m) (step-bounded p c.bounded m) (suc m) (length rest) operand.0 operand.1 k)
 
   postfix-far : (expr : ExprTree) (rest : List Tok) → ExprFits expr → BindsAt POSTFIX_LEVEL expr → expr_depth expr ≤ suc m → Reaches (length rest) (postfix m p (expr_yield expr ++ rest))
-  postfix-far (Postfix value op) rest fit binds shallow =
-      stands_far m (postfix m p) (step m) (step-bounded p c.bounded m) (Postfix value op) rest (length rest) (stands (Postfix value op) rest fit binds shallow tt) (le_refl (length rest))
+  postfix-far (Postfix operand op) rest fit binds shallow =
+      stands_far m (postfix m p) (step m) (step-bounded p c.bounded m) (Postfix operand op) rest (length rest) (stands (Postfix operand op) rest fit binds shallow tt) (le_refl (length rest))
   postfix-far (Binary left op right) rest fit binds shallow = let less = binary_level_less op in absurd (omega arith)
   postfix-far expr rest fit binds shallow = primary_reach expr rest fit (primary_level expr tt binds) shallow
 
   -- ---- prefix operators
 
-  prefix_read : (op : Tok) (toks : List Tok) → IsTrue (is_op_of PREFIXES op) → (z : Option (ExprTree × List Tok)) → (p.unary toks >>= λ value. Some (Unary op value.0, value.1)) ≡ z → unary m p (op ∷ toks) ≡ z
+  prefix_read : (op : Tok) (toks : List Tok) → IsTrue (is_op_of PREFIXES op) → (z : Option (ExprTree × List Tok)) → (p.unary toks >>= λ operand. Some (Unary op operand.0, operand.1)) ≡ z → unary m p (op ∷ toks) ≡ z
   unfolding unary prefixed begins
   prefix_read op toks is z h = if-true _ _ _ is ∙ bind-Some _ _ _ _ (token-at (is_op_of PREFIXES) op toks is) h
 
@@ -143,16 +143,16 @@ module _ (m : ℕ) (p : Parsers) (c : AreComplete m p) where
   casts_so (Named found) [] operand rest h = operand_begins operand rest h
   casts_so (Named found) (pair ∷ pairs) operand rest h = operand_begins operand rest h
 
-  cast_read : (left : Tok) (sort : TypeUseTree) (right : Tok) (toks : List Tok) → AreParens left right → TypeFits sort → IsTrue (casts sort toks) → (z : Option (ExprTree × List Tok))
-      → (p.unary toks >>= λ value. Some (Cast left sort right value.0, value.1)) ≡ z → cast p (left ∷ (type_yield sort ++ right ∷ toks)) ≡ z
+  cast_read : (left : Tok) (used_type : TypeUseTree) (right : Tok) (toks : List Tok) → AreParens left right → TypeFits used_type → IsTrue (casts used_type toks) → (z : Option (ExprTree × List Tok))
+      → (p.unary toks >>= λ operand. Some (Cast left used_type right operand.0, operand.1)) ≡ z → cast p (left ∷ (type_yield used_type ++ right ∷ toks)) ≡ z
   unfolding cast
-  cast_read left sort right toks parens fit is z h =
+  cast_read left used_type right toks parens fit is z h =
       bind-Some _ _ _ _ (token-at (is_op LEFT_PAREN) left _ (IsOp-is_op LEFT_PAREN left parens.0))
-      (bind-Some _ _ _ _ (type_use-exact sort (right ∷ toks) fit (op_other RIGHT_PAREN DOT right toks refl parens.1, no_brackets (right ∷ toks) (op_other RIGHT_PAREN LEFT_BRACKET right toks refl parens.1)))
-      (bind-Some _ _ _ _ (token-at (is_op RIGHT_PAREN) right toks (IsOp-is_op RIGHT_PAREN right parens.1)) (ap (λ found. found >>= λ value. Some (Cast left sort right value.0, value.1)) (when-true _ (p.unary toks) is) ∙ h)))
+      (bind-Some _ _ _ _ (type_use-exact used_type (right ∷ toks) fit (op_other RIGHT_PAREN DOT right toks refl parens.1, no_brackets (right ∷ toks) (op_other RIGHT_PAREN LEFT_BRACKET right toks refl parens.1)))
+      (bind-Some _ _ _ _ (token-at (is_op RIGHT_PAREN) right toks (IsOp-is_op RIGHT_PAREN right parens.1)) (ap (λ found. found >>= λ operand. Some (Cast left used_type right operand.0, operand.1)) (when-true _ (p.unary toks) is) ∙ h)))
 
-  cast_tokens : (left : Tok) (sort : TypeUseTree) (right : Tok) (value : ExprTree) (rest : List Tok) → expr_yield (Cast left sort right value) ++ rest ≡ left ∷ (type_yield sort ++ right ∷ (expr_yield value ++ rest))
-  cast_tokens left sort right value rest = ap (λ others. left ∷ others) (append_assoc (type_yield sort) (right ∷ expr_yield value) rest)
+  cast_tokens : (left : Tok) (used_type : TypeUseTree) (right : Tok) (operand : ExprTree) (rest : List Tok) → expr_yield (Cast left used_type right operand) ++ rest ≡ left ∷ (type_yield used_type ++ right ∷ (expr_yield operand ++ rest))
+  cast_tokens left used_type right operand rest = ap (λ others. left ∷ others) (append_assoc (type_yield used_type) (right ∷ expr_yield operand) rest)
 
   paren_first : (left : Tok) (toks : List Tok) → IsOp LEFT_PAREN left → unary m p (left ∷ toks) ≡ or_else (cast p (left ∷ toks)) (postfix m p (left ∷ toks))
   unfolding unary
@@ -160,8 +160,8 @@ module _ (m : ℕ) (p : Parsers) (c : AreComplete m p) where
 
   -- ---- the reader
 
-  good_unary : (value : ExprTree) → ExprFits value → BindsAt UNARY_LEVEL value → expr_depth value ≤ m → Good UNARY_LEVEL m value
-  good_unary value fit binds shallow = record { fits = fit; binds = binds; shallow = shallow }
+  good_unary : (operand : ExprTree) → ExprFits operand → BindsAt UNARY_LEVEL operand → expr_depth operand ≤ m → Good UNARY_LEVEL m operand
+  good_unary operand fit binds shallow = record { fits = fit; binds = binds; shallow = shallow }
 
   no_operator : (expr : ExprTree) (rest : List Tok) → ExprFits expr → BindsAt POSTFIX_LEVEL expr → unary m p (expr_yield expr ++ rest) ≡ or_else (cast p (expr_yield expr ++ rest)) (postfix m p (expr_yield expr ++ rest))
   unfolding unary
@@ -173,11 +173,11 @@ module _ (m : ℕ) (p : Parsers) (c : AreComplete m p) where
       no_operator expr rest fit binds ∙ else-None _ _ (no_cast m p c expr rest fit binds (no_operand_behind expr rest s.operand)) ∙ postfix-exact expr rest fit binds shallow (stops_over UNARY_LEVEL rest stops) s.suffix
 
   pub unary-exact : (expr : ExprTree) (rest : List Tok) → ExprFits expr → BindsAt UNARY_LEVEL expr → expr_depth expr ≤ suc m → Stops UNARY_LEVEL rest → unary m p (expr_yield expr ++ rest) ≡ Some (expr, rest)
-  unary-exact (Unary op value) rest fit binds shallow stops = prefix_read op _ fit.0.op_is _ (bind-Some _ _ _ _ (c.unary.exact value rest (good_unary value fit.1 fit.0.value_binds (omega arith)) stops) refl)
-  unary-exact (Cast left sort right value) rest fit binds shallow stops =
-      reads-same (unary m p) (cast_tokens left sort right value rest) (paren_first left _ fit.0.parens.0 ∙
-      else-Some _ _ _ (cast_read left sort right _ fit.0.parens fit.1 (casts_so sort.base sort.dims.list (expr_yield value) rest fit.0.takes) _
-      (bind-Some _ _ _ _ (c.unary.exact value rest (good_unary value fit.2 fit.0.value_binds (omega arith)) stops) refl)))
+  unary-exact (Unary op operand) rest fit binds shallow stops = prefix_read op _ fit.0.op_is _ (bind-Some _ _ _ _ (c.unary.exact operand rest (good_unary operand fit.1 fit.0.operand_binds (omega arith)) stops) refl)
+  unary-exact (Cast left used_type right operand) rest fit binds shallow stops =
+      reads-same (unary m p) (cast_tokens left used_type right operand rest) (paren_first left _ fit.0.parens.0 ∙
+      else-Some _ _ _ (cast_read left used_type right _ fit.0.parens fit.1 (casts_so used_type.base used_type.dims.list (expr_yield operand) rest fit.0.takes) _
+      (bind-Some _ _ _ _ (c.unary.exact operand rest (good_unary operand fit.2 fit.0.operand_binds (omega arith)) stops) refl)))
   unary-exact (Binary left op right) rest fit binds shallow stops = let less = binary_level_less op in absurd (omega arith)
   unary-exact expr rest fit binds shallow stops = postfix_read expr rest fit (postfix_level expr tt binds) shallow stops
 
@@ -185,16 +185,16 @@ module _ (m : ℕ) (p : Parsers) (c : AreComplete m p) where
   postfix_reach expr rest fit binds shallow =
       subst (Reaches (length rest)) (sym (no_operator expr rest fit binds)) (reaches-else (length rest) _ _ (cast_within m p c expr rest fit binds) (postfix-far expr rest fit binds shallow))
 
-  prefix_reach : (op : Tok) (value : ExprTree) (rest : List Tok) → IsTrue (is_op_of PREFIXES op) → Reaches (length rest) (p.unary (expr_yield value ++ rest)) → Reaches (length rest) (unary m p (op ∷ (expr_yield value ++ rest)))
-  prefix_reach op value rest is far = reaches-Some (length rest) _ (Unary op far.to.0, far.to.1) (prefix_read op _ is _ (bind-Some _ _ _ _ far.reads refl)) far.left
+  prefix_reach : (op : Tok) (operand : ExprTree) (rest : List Tok) → IsTrue (is_op_of PREFIXES op) → Reaches (length rest) (p.unary (expr_yield operand ++ rest)) → Reaches (length rest) (unary m p (op ∷ (expr_yield operand ++ rest)))
+  prefix_reach op operand rest is far = reaches-Some (length rest) _ (Unary op far.to.0, far.to.1) (prefix_read op _ is _ (bind-Some _ _ _ _ far.reads refl)) far.left
 
-  cast_reach : (left : Tok) (sort : TypeUseTree) (right : Tok) (value : ExprTree) (rest : List Tok) → IsCast left sort right value → TypeFits sort → Reaches (length rest) (p.unary (expr_yield value ++ rest)) → Reaches (length rest) (unary m p (expr_yield (Cast left sort right value) ++ rest))
-  cast_reach left sort right value rest is fit far =
-      reaches-Some (length rest) _ (Cast left sort right far.to.0, far.to.1) (reads-same (unary m p) (cast_tokens left sort right value rest) (paren_first left _ is.parens.0 ∙
-      else-Some _ _ _ (cast_read left sort right _ is.parens fit (casts_so sort.base sort.dims.list (expr_yield value) rest is.takes) _ (bind-Some _ _ _ _ far.reads refl)))) far.left
+  cast_reach : (left : Tok) (used_type : TypeUseTree) (right : Tok) (operand : ExprTree) (rest : List Tok) → IsCast left used_type right operand → TypeFits used_type → Reaches (length rest) (p.unary (expr_yield operand ++ rest)) → Reaches (length rest) (unary m p (expr_yield (Cast left used_type right operand) ++ rest))
+  cast_reach left used_type right operand rest is fit far =
+      reaches-Some (length rest) _ (Cast left used_type right far.to.0, far.to.1) (reads-same (unary m p) (cast_tokens left used_type right operand rest) (paren_first left _ is.parens.0 ∙
+      else-Some _ _ _ (cast_read left used_type right _ is.parens fit (casts_so used_type.base used_type.dims.list (expr_yield operand) rest is.takes) _ (bind-Some _ _ _ _ far.reads refl)))) far.left
 
   pub unary-far : (expr : ExprTree) (rest : List Tok) → ExprFits expr → BindsAt UNARY_LEVEL expr → expr_depth expr ≤ suc m → Reaches (length rest) (unary m p (expr_yield expr ++ rest))
-  unary-far (Unary op value) rest fit binds shallow = prefix_reach op value rest fit.0.op_is (c.unary.far value rest (good_unary value fit.1 fit.0.value_binds (omega arith)))
-  unary-far (Cast left sort right value) rest fit binds shallow = cast_reach left sort right value rest fit.0 fit.1 (c.unary.far value rest (good_unary value fit.2 fit.0.value_binds (omega arith)))
+  unary-far (Unary op operand) rest fit binds shallow = prefix_reach op operand rest fit.0.op_is (c.unary.far operand rest (good_unary operand fit.1 fit.0.operand_binds (omega arith)))
+  unary-far (Cast left used_type right operand) rest fit binds shallow = cast_reach left used_type right operand rest fit.0 fit.1 (c.unary.far operand rest (good_unary operand fit.2 fit.0.operand_binds (omega arith)))
   unary-far (Binary left op right) rest fit binds shallow = let less = binary_level_less op in absurd (omega arith)
   unary-far expr rest fit binds shallow = postfix_reach expr rest fit (postfix_level expr tt binds) shallow

@@ -36,12 +36,12 @@ module _ (p : Parsers) where
   array_is : (word : Tok) (base : TypeBaseTree) (sizes : List (Tok × ExprTree × Tok)) (toks : List Tok) (y : ExprTree × List Tok) → new_array p word base sizes toks ≡ Some y → IsCreation y.0
   unfolding new_array new_filled
   array_is word base [] toks y h = elim (of_bind (dims toks) _ _ h) [
-    | bound ends found rest ↦ elim (of_bind (when (has_brackets ends.0) (braces p ends.1)) _ _ rest) [
-      | bound items items_found same ↦ by_some (λ (z : ExprTree × List Tok). IsCreation z.0) (NewInit word base ends.0 items.0, items.1) y same tt
+    | bound bracket_pairs found rest ↦ elim (of_bind (when (has_brackets bracket_pairs.0) (braces p bracket_pairs.1)) _ _ rest) [
+      | bound items items_found same ↦ by_some (λ (z : ExprTree × List Tok). IsCreation z.0) (NewInit word base bracket_pairs.0 items.0, items.1) y same tt
     ]
   ]
   array_is word base (size ∷ sizes) toks y h = elim (of_bind (dims toks) _ _ h) [
-    | bound ends found same ↦ by_some (λ (z : ExprTree × List Tok). IsCreation z.0) (NewArray word base (sizes_tree (size ∷ sizes)) ends.0, ends.1) y same tt
+    | bound bracket_pairs found same ↦ by_some (λ (z : ExprTree × List Tok). IsCreation z.0) (NewArray word base (sizes_tree (size ∷ sizes)) bracket_pairs.0, bracket_pairs.1) y same tt
   ]
 
   creation_is : (toks : List Tok) (y : ExprTree × List Tok) → creation p toks ≡ Some y → IsCreation y.0
@@ -68,20 +68,20 @@ module _ (m : ℕ) (p : Parsers) (c : AreComplete m p) where
   creation-far (New word class list) rest is fit shallow =
       as_creation word _ rest fit.0 (reaches-Some (length rest) _ (New word class list, rest)
       (reads-same (first_part m p) (ap (λ others. word ∷ others) (append_assoc (name_yield class) (args_yield list) rest)) (new-exact m p c word class list rest fit.0 fit.1 (record { fits = fit.2; shallow = omega arith }))) (le_refl (length rest)))
-  creation-far (NewInit word base ends items) rest is fit shallow =
-      as_creation word _ rest fit.0 (reaches-Some (length rest) _ (NewInit word base ends items, rest)
-      (reads-same (first_part m p) (filled_tokens word base ends items rest) (filled-exact m p c word base ends items rest fit.0 fit.1 fit.2 fit.3 (record { fits = fit.4; shallow = omega arith }))) (le_refl (length rest)))
-  creation-far (NewArray word base sizes ends) rest is fit shallow =
+  creation-far (NewInit word base bracket_pairs items) rest is fit shallow =
+      as_creation word _ rest fit.0 (reaches-Some (length rest) _ (NewInit word base bracket_pairs items, rest)
+      (reads-same (first_part m p) (filled_tokens word base bracket_pairs items rest) (filled-exact m p c word base bracket_pairs items rest fit.0 fit.1 fit.2 fit.3 (record { fits = fit.4; shallow = omega arith }))) (le_refl (length rest)))
+  creation-far (NewArray word base sizes bracket_pairs) rest is fit shallow =
       as_creation word _ rest fit.0
-      (subst (λ (toks : List Tok). Reaches (length rest) (first_part m p toks)) (sym (array_tokens word base sizes ends rest)) (array-far m p c word base sizes ends rest fit.0 fit.1 fit.2 fit.3 (omega arith) fit.4))
+      (subst (λ (toks : List Tok). Reaches (length rest) (first_part m p toks)) (sym (array_tokens word base sizes bracket_pairs rest)) (array-far m p c word base sizes bracket_pairs rest fit.0 fit.1 fit.2 fit.3 (omega arith) fit.4))
   creation-far expr rest is fit shallow = absurd is
 
 -- ---- in each room
 
 no_creation : (tree : ExprTree) → IsCreation tree → expr_depth tree ≤ 0 → ⊥
 no_creation (New word class list) is shallow = omega arith
-no_creation (NewArray word base sizes ends) is shallow = omega arith
-no_creation (NewInit word base ends items) is shallow = omega arith
+no_creation (NewArray word base sizes bracket_pairs) is shallow = omega arith
+no_creation (NewInit word base bracket_pairs items) is shallow = omega arith
 no_creation expr is shallow = is
 
 pub creations_longest : (room : ℕ) → ReadsLongest CreationFits expr_yield expr_depth room (creations room)

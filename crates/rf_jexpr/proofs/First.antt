@@ -79,28 +79,28 @@ paren_begins tok h = primary_begins tok (paren_primary tok h)
 
 mutual
   pub expr_first-begins : (expr : ExprTree) → ExprFits expr → IsTrue (begins_expr (expr_first expr))
-  expr_first-begins (Assign left op value) fit = expr_first-begins left fit.1
+  expr_first-begins (Assign left op operand) fit = expr_first-begins left fit.1
   expr_first-begins (Cond test mark first colon other) fit = expr_first-begins test fit.1
   expr_first-begins (Binary left op right) fit = expr_first-begins left fit.1
-  expr_first-begins (Instance value word sort) fit = expr_first-begins value fit.1
-  expr_first-begins (Unary op value) fit = prefix_begins op fit.0.op_is
-  expr_first-begins (Cast left sort right value) fit = paren_begins left fit.0.parens.0
-  expr_first-begins (Postfix value op) fit = expr_first-begins value fit.1
+  expr_first-begins (Instance operand word used_type) fit = expr_first-begins operand fit.1
+  expr_first-begins (Unary op operand) fit = prefix_begins op fit.0.op_is
+  expr_first-begins (Cast left used_type right operand) fit = paren_begins left fit.0.parens.0
+  expr_first-begins (Postfix operand op) fit = expr_first-begins operand fit.1
   expr_first-begins (Lit tok) fit = primary_begins tok (literal_primary tok fit)
   expr_first-begins (This tok) fit = primary_begins tok (this_primary tok fit)
-  expr_first-begins (Paren left value right) fit = paren_begins left fit.0.0
+  expr_first-begins (Paren left operand right) fit = paren_begins left fit.0.0
   expr_first-begins (Name name) fit = primary_begins name.ids.first (ident_primary name.ids.first fit.0)
   expr_first-begins (Call on id args) fit = on_first-begins on id fit.0 fit.1
-  expr_first-begins (Field value dot id) fit = expr_first-begins value fit.1
+  expr_first-begins (Field operand dot id) fit = expr_first-begins operand fit.1
   expr_first-begins (Super word dot id args) fit = primary_begins word (super_primary word fit.0.word_is)
   expr_first-begins (New word name args) fit = primary_begins word (new_primary word fit.0)
-  expr_first-begins (Index value left index right) fit = expr_first-begins value fit.1
+  expr_first-begins (Index operand left index right) fit = expr_first-begins operand fit.1
   expr_first-begins (NewArray word base sizes dims) fit = primary_begins word (new_primary word fit.0)
   expr_first-begins (NewInit word base dims init) fit = primary_begins word (new_primary word fit.0)
 
   on_first-begins : (on : OnTree) (id : Tok) → OnFits on → IsIdent id → IsTrue (begins_expr (on_first on id))
   on_first-begins NoOn id fit is = primary_begins id (ident_primary id is)
-  on_first-begins (On value dot) id fit is = expr_first-begins value fit.1
+  on_first-begins (On operand dot) id fit is = expr_first-begins operand fit.1
 
 -- a binary operator binds less than a unary one
 pub binary_level_less : (tok : Tok) → binary_level tok < UNARY_LEVEL
@@ -112,28 +112,28 @@ primary_binds expr h = omega arith
 -- an expression that binds as tightly as `x++`
 mutual
   pub primary_first : (expr : ExprTree) → ExprFits expr → BindsAt POSTFIX_LEVEL expr → IsTrue (begins_primary (expr_first expr))
-  primary_first (Assign left op value) fit binds = absurd (omega arith)
+  primary_first (Assign left op operand) fit binds = absurd (omega arith)
   primary_first (Cond test mark first colon other) fit binds = absurd (omega arith)
   primary_first (Binary left op right) fit binds = let less = binary_level_less op in absurd (omega arith)
-  primary_first (Instance value word sort) fit binds = absurd (omega arith)
-  primary_first (Unary op value) fit binds = absurd (omega arith)
-  primary_first (Cast left sort right value) fit binds = absurd (omega arith)
-  primary_first (Postfix value op) fit binds = primary_first value fit.1 fit.0.value_binds
+  primary_first (Instance operand word used_type) fit binds = absurd (omega arith)
+  primary_first (Unary op operand) fit binds = absurd (omega arith)
+  primary_first (Cast left used_type right operand) fit binds = absurd (omega arith)
+  primary_first (Postfix operand op) fit binds = primary_first operand fit.1 fit.0.operand_binds
   primary_first (Lit tok) fit binds = literal_primary tok fit
   primary_first (This tok) fit binds = this_primary tok fit
-  primary_first (Paren left value right) fit binds = paren_primary left fit.0.0
+  primary_first (Paren left operand right) fit binds = paren_primary left fit.0.0
   primary_first (Name name) fit binds = ident_primary name.ids.first fit.0
   primary_first (Call on id args) fit binds = on_primary on id fit.0 fit.1
-  primary_first (Field value dot id) fit binds = primary_first value fit.1 (primary_binds value fit.0.primary)
+  primary_first (Field operand dot id) fit binds = primary_first operand fit.1 (primary_binds operand fit.0.primary)
   primary_first (Super word dot id args) fit binds = super_primary word fit.0.word_is
   primary_first (New word name args) fit binds = new_primary word fit.0
-  primary_first (Index value left index right) fit binds = primary_first value fit.1 (primary_binds value fit.0.primary)
+  primary_first (Index operand left index right) fit binds = primary_first operand fit.1 (primary_binds operand fit.0.primary)
   primary_first (NewArray word base sizes dims) fit binds = new_primary word fit.0
   primary_first (NewInit word base dims init) fit binds = new_primary word fit.0
 
   on_primary : (on : OnTree) (id : Tok) → OnFits on → IsIdent id → IsTrue (begins_primary (on_first on id))
   on_primary NoOn id fit is = ident_primary id is
-  on_primary (On value dot) id fit is = primary_first value fit.1 (primary_binds value fit.0.primary)
+  on_primary (On operand dot) id fit is = primary_first operand fit.1 (primary_binds operand fit.0.primary)
 
 -- ---- and the tokens of trees
 

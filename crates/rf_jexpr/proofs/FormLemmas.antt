@@ -50,9 +50,9 @@ no_new_array-exact found tree h = same_tests found (is_no_new_array tree) (λ r.
 left_side-is : (tree : ExprTree) → IsTrue (is_left_side tree) ↔ IsLeftSide tree
 unfolding is_left_side
 left_side-is (Name found) = (λ h. tt, λ h. refl)
-left_side-is (Field value dot id) = (λ h. tt, λ h. refl)
+left_side-is (Field operand dot id) = (λ h. tt, λ h. refl)
 left_side-is (Super word dot id NoArgs) = (λ h. tt, λ h. refl)
-left_side-is (Index value left index right) = (λ h. tt, λ h. refl)
+left_side-is (Index operand left index right) = (λ h. tt, λ h. refl)
 left_side-is tree = (λ h. cc, λ h. absurd h)
 
 pub left_side-exact : (found : Bool) (tree : ExprTree) → (IsTrue found ↔ IsLeftSide tree) → found ≡ is_left_side tree

@@ -130,23 +130,23 @@ module _ (stop : Tok → Bool) (passed : PassedByNone stop) where
 
   before : (found : NameTree) (tok : Tok) (rest : List Tok) → NameFits found → Ends tok → NoTypeBefore stop (name_yield found ++ tok ∷ rest)
   unfolding longer begins
-  before found tok rest fit ends =
-      let more = or_false _ _ ends.0 in
-      by_name found (tok ∷ rest) fit more.0 (no_brackets (tok ∷ rest) more.1) ends.1
+  before found tok rest fit stops =
+      let more = or_false _ _ stops.0 in
+      by_name found (tok ∷ rest) fit more.0 (no_brackets (tok ∷ rest) more.1) stops.1
 
   -- a left operand before such a token
   operand_before : (left : ExprTree) (tok : Tok) (rest : List Tok) → ExprFits left → Ends tok → (IsNoName left → NoTypeBefore stop (expr_yield left ++ tok ∷ rest)) → NoTypeBefore stop (expr_yield left ++ tok ∷ rest)
-  operand_before (Name found) tok rest fit ends otherwise = before found tok rest fit ends
-  operand_before left tok rest fit ends otherwise = otherwise tt
+  operand_before (Name found) tok rest fit stops otherwise = before found tok rest fit stops
+  operand_before left tok rest fit stops otherwise = otherwise tt
 
   -- an item of an expression
-  item_before : (value : ExprTree) (left : Tok) (index : ExprTree) (rest : List Tok) → ExprFits value → IsOp LEFT_BRACKET left → ExprFits index
-      → (IsNoName value → NoTypeBefore stop (expr_yield value ++ left ∷ (expr_yield index ++ rest))) → NoTypeBefore stop (expr_yield value ++ left ∷ (expr_yield index ++ rest))
+  item_before : (operand : ExprTree) (left : Tok) (index : ExprTree) (rest : List Tok) → ExprFits operand → IsOp LEFT_BRACKET left → ExprFits index
+      → (IsNoName operand → NoTypeBefore stop (expr_yield operand ++ left ∷ (expr_yield index ++ rest))) → NoTypeBefore stop (expr_yield operand ++ left ∷ (expr_yield index ++ rest))
   unfolding begins is_op brackets
   item_before (Name found) left index rest fit is inner otherwise =
       by_name found (left ∷ (expr_yield index ++ rest)) fit (rw is refl)
       (bind-Some _ _ _ _ (token-at (is_op LEFT_BRACKET) left (expr_yield index ++ rest) (IsOp-is_op LEFT_BRACKET left is)) (bind-None _ _ (token-other (is_op RIGHT_BRACKET) _ (begins_no_bracket index rest inner)))) (passed.left_bracket left is)
-  item_before value left index rest fit is inner otherwise = otherwise tt
+  item_before operand left index rest fit is inner otherwise = otherwise tt
 
   args_before : (found : NameTree) (args : ArgsTree) (rest : List Tok) → NameFits found → ArgsFit args → NoTypeBefore stop (name_yield found ++ (args_yield args ++ rest))
   args_before found (Args left list right) rest fit args_fit = before found left _ fit (paren_ends left args_fit.0.0)
@@ -156,36 +156,36 @@ module _ (stop : Tok → Bool) (passed : PassedByNone stop) where
   method_before id args rest is fit = args_before (alone id) args rest (alone-fits id is) fit
 
   -- a call of a method of an expression
-  called_before : (value : ExprTree) (dot id : Tok) (args : ArgsTree) (rest : List Tok) → ExprFits value → IsOp DOT dot → IsIdent id → ArgsFit args
-      → (IsNoName value → NoTypeBefore stop (expr_yield value ++ dot ∷ id ∷ (args_yield args ++ rest))) → NoTypeBefore stop (((expr_yield value ++ dot ∷ []) ++ id ∷ args_yield args) ++ rest)
+  called_before : (operand : ExprTree) (dot id : Tok) (args : ArgsTree) (rest : List Tok) → ExprFits operand → IsOp DOT dot → IsIdent id → ArgsFit args
+      → (IsNoName operand → NoTypeBefore stop (expr_yield operand ++ dot ∷ id ∷ (args_yield args ++ rest))) → NoTypeBefore stop (((expr_yield operand ++ dot ∷ []) ++ id ∷ args_yield args) ++ rest)
   called_before (Name found) dot id args rest fit dot_is id_is args_fit otherwise =
       same_tokens (member-tokens found dot id (args_yield args) rest) (args_before (with_member found dot id) args rest (member-fits found dot id fit dot_is id_is) args_fit)
-  called_before value dot id args rest fit dot_is id_is args_fit otherwise = same_tokens (dotted-tokens (expr_yield value) dot id (args_yield args) rest) (otherwise tt)
+  called_before operand dot id args rest fit dot_is id_is args_fit otherwise = same_tokens (dotted-tokens (expr_yield operand) dot id (args_yield args) rest) (otherwise tt)
 
   -- ---- expressions
 
   -- an operand, and a token behind it that ends a type
   behind_operand : (left : ExprTree) (op : Tok) (more rest : List Tok) → ExprFits left → Ends op → (IsNoName left → NoTypeBefore stop (expr_yield left ++ op ∷ (more ++ rest))) → NoTypeBefore stop ((expr_yield left ++ op ∷ more) ++ rest)
-  behind_operand left op more rest fit ends otherwise = same_tokens (append_assoc (expr_yield left) (op ∷ more) rest) (operand_before left op (more ++ rest) fit ends otherwise)
+  behind_operand left op more rest fit stops otherwise = same_tokens (append_assoc (expr_yield left) (op ∷ more) rest) (operand_before left op (more ++ rest) fit stops otherwise)
 
   pub no_type_before : (expr : ExprTree) (rest : List Tok) → ExprFits expr → IsNoName expr → NoTypeBefore stop (expr_yield expr ++ rest)
-  no_type_before (Assign left op value) rest fit not_name = behind_operand left op _ rest fit.1 (assignment_ends op fit.0.op_is) (no_type_before left _ fit.1)
+  no_type_before (Assign left op operand) rest fit not_name = behind_operand left op _ rest fit.1 (assignment_ends op fit.0.op_is) (no_type_before left _ fit.1)
   no_type_before (Cond test mark first colon other) rest fit not_name = behind_operand test mark _ rest fit.1 (question_ends mark fit.0.mark_is) (no_type_before test _ fit.1)
   no_type_before (Binary left op right) rest fit not_name = behind_operand left op _ rest fit.1 (binary_ends op fit.0.op_is) (no_type_before left _ fit.1)
-  no_type_before (Instance value word sort) rest fit not_name = behind_operand value word _ rest fit.1 (instance_ends word fit.0.word_is) (no_type_before value _ fit.1)
-  no_type_before (Unary op value) rest fit not_name = prefix_no_type op _ fit.0.op_is
-  no_type_before (Cast left sort right value) rest fit not_name = op_no_type LEFT_PAREN left _ fit.0.parens.0
-  no_type_before (Postfix value op) rest fit not_name = behind_operand value op _ rest fit.1 (suffix_ends op fit.0.op_is) (no_type_before value _ fit.1)
+  no_type_before (Instance operand word used_type) rest fit not_name = behind_operand operand word _ rest fit.1 (instance_ends word fit.0.word_is) (no_type_before operand _ fit.1)
+  no_type_before (Unary op operand) rest fit not_name = prefix_no_type op _ fit.0.op_is
+  no_type_before (Cast left used_type right operand) rest fit not_name = op_no_type LEFT_PAREN left _ fit.0.parens.0
+  no_type_before (Postfix operand op) rest fit not_name = behind_operand operand op _ rest fit.1 (suffix_ends op fit.0.op_is) (no_type_before operand _ fit.1)
   no_type_before (Lit tok) rest fit not_name = literal_no_type tok _ fit
   no_type_before (This tok) rest fit not_name = key_no_type THIS tok _ refl fit
-  no_type_before (Paren left value right) rest fit not_name = op_no_type LEFT_PAREN left _ fit.0.0
+  no_type_before (Paren left operand right) rest fit not_name = op_no_type LEFT_PAREN left _ fit.0.0
   no_type_before (Name found) rest fit not_name = absurd not_name
   no_type_before (Call NoOn id args) rest fit not_name = method_before id args rest fit.1 fit.2
-  no_type_before (Call (On value dot) id args) rest fit not_name = called_before value dot id args rest fit.0.1 fit.0.0.dot_is fit.1 fit.2 (no_type_before value _ fit.0.1)
-  no_type_before (Field value dot id) rest fit not_name = same_tokens (append_assoc (expr_yield value) (dot ∷ id ∷ []) rest) (no_type_before value _ fit.1 fit.0.no_name)
+  no_type_before (Call (On operand dot) id args) rest fit not_name = called_before operand dot id args rest fit.0.1 fit.0.0.dot_is fit.1 fit.2 (no_type_before operand _ fit.0.1)
+  no_type_before (Field operand dot id) rest fit not_name = same_tokens (append_assoc (expr_yield operand) (dot ∷ id ∷ []) rest) (no_type_before operand _ fit.1 fit.0.no_name)
   no_type_before (Super word dot id args) rest fit not_name = key_no_type SUPER word _ refl fit.0.word_is
   no_type_before (New word class args) rest fit not_name = key_no_type NEW word _ refl fit.0
-  no_type_before (Index value left index right) rest fit not_name =
-      same_tokens (item-tokens (expr_yield value) left (expr_yield index) right rest) (item_before value left index (right ∷ rest) fit.1 fit.0.brackets.0 fit.2 (no_type_before value _ fit.1))
-  no_type_before (NewArray word base sizes ends) rest fit not_name = key_no_type NEW word _ refl fit.0
-  no_type_before (NewInit word base ends init) rest fit not_name = key_no_type NEW word _ refl fit.0
+  no_type_before (Index operand left index right) rest fit not_name =
+      same_tokens (item-tokens (expr_yield operand) left (expr_yield index) right rest) (item_before operand left index (right ∷ rest) fit.1 fit.0.brackets.0 fit.2 (no_type_before operand _ fit.1))
+  no_type_before (NewArray word base sizes bracket_pairs) rest fit not_name = key_no_type NEW word _ refl fit.0
+  no_type_before (NewInit word base bracket_pairs init) rest fit not_name = key_no_type NEW word _ refl fit.0

@@ -3,7 +3,7 @@ use Rattle.std.proofs.Common.{◌≡◌, ℕ, zero, suc, ◌-◌, ◌<◌, List,
 use Rattle.rf_jtree.specs.declared.tokens.Tok.{Tok}
 use Rattle.rf_jtree.specs.declared.levels.TheConstants.{OR_OR_LEVEL}
 use Rattle.rf_jtree.specs.declared.operator_names.TheConstants.{LEFT_BRACE, PREFIXES}
-use Rattle.rf_jtree.specs.ExprTrees.{Value, Braced}
+use Rattle.rf_jtree.specs.ExprTrees.{Expression, Braced}
 use Rattle.rf_jtree.specs.Kinds.{is_op_of}
 use Rattle.rf_jexpr.specs.Descent.{parsers, with_room, nothing, expr, conditional, binary, unary, init, choice, assignment, operator, prefixed, cast, postfix}
 use Rattle.rf_jexpr.specs.PartReads.{braces}
@@ -49,7 +49,7 @@ pub init-none : (toks : List Tok) → (parsers zero).init toks ≡ None
 unfolding parsers nothing
 init-none toks = refl
 
-pub init-room : (room : ℕ) (toks : List Tok) → 0 < room → (parsers room).init toks ≡ (if begins (is_op LEFT_BRACE) toks then and_then (braces (parsers (room - 1)) toks) (λ items. Some (Braced items.0, items.1)) else and_then ((parsers room).expr toks) (λ value. Some (Value value.0, value.1)))
+pub init-room : (room : ℕ) (toks : List Tok) → 0 < room → (parsers room).init toks ≡ (if begins (is_op LEFT_BRACE) toks then and_then (braces (parsers (room - 1)) toks) (λ items. Some (Braced items.0, items.1)) else and_then ((parsers room).expr toks) (λ operand. Some (Expression operand.0, operand.1)))
 unfolding parsers with_room init
 init-room zero toks h = absurd (omega arith)
 init-room (suc m) toks h = let e : suc m - 1 ≡ m = omega arith in rw e refl

@@ -9,7 +9,7 @@ use Rattle.rf_jtree.specs.declared.operator_names.TheConstants.{OR_OR, AND_AND, 
 use Rattle.rf_jtree.specs.declared.keyword_names.TheConstants.{INSTANCEOF}
 use Rattle.rf_jtree.specs.ExprFits.{IsLeftSide, CastTakes, BeginsOperand, begins_operand}
 use Rattle.rf_jfit.specs.ExprFirst.{expr_first}
-use Rattle.rf_jtree.specs.ExprTrees.{ExprTree, Assign, Cond, Binary, Instance, Unary, Cast, Postfix, Name, Field, Super, Index, NoArgs, Value, Braced, expr_yield, init_yield, braces_yield, expr_depth, braces_depth}
+use Rattle.rf_jtree.specs.ExprTrees.{ExprTree, Assign, Cond, Binary, Instance, Unary, Cast, Postfix, Name, Field, Super, Index, NoArgs, Expression, Braced, expr_yield, init_yield, braces_yield, expr_depth, braces_depth}
 use Rattle.rf_jtree.specs.Kinds.{is_op_of, has_op}
 use Rattle.rf_jtree.specs.Levels.{binary_level, op_level, expr_level}
 use Rattle.rf_jtree.specs.NameTrees.{TypeBaseTree, Prim, Named, TypeUseTree, type_yield}
@@ -62,9 +62,9 @@ binary_level_small tok = kind_small tok tok.kind refl
 is_left_side-IsLeftSide : (left : ExprTree) → IsTrue (is_left_side left) → IsLeftSide left
 unfolding is_left_side
 is_left_side-IsLeftSide (Name found) h = tt
-is_left_side-IsLeftSide (Field value dot id) h = tt
+is_left_side-IsLeftSide (Field operand dot id) h = tt
 is_left_side-IsLeftSide (Super word dot id NoArgs) h = tt
-is_left_side-IsLeftSide (Index value left index right) h = tt
+is_left_side-IsLeftSide (Index operand left index right) h = tt
 is_left_side-IsLeftSide expr h = absurd (cc)
 
 -- what an expression begins with doesn't depend on what follows it
@@ -76,14 +76,14 @@ begins_in_front tok more (first ∷ others) rest e h = h
 begins_before : (expr : ExprTree) (rest : List Tok) → IsTrue (begins begins_operand (expr_yield expr ++ rest)) → BeginsOperand (expr_yield expr)
 begins_before expr rest h = let first = expr_begins expr in begins_in_front (expr_first expr) first.rest (expr_yield expr) rest first.parts h
 
-casts_by : (base : TypeBaseTree) (pairs : List (Tok × Tok)) (value : ExprTree) (rest : List Tok) → IsTrue (casts (record { base = base; dims = record { list = pairs } }) (expr_yield value ++ rest)) → CastTakes base pairs (expr_yield value)
+casts_by : (base : TypeBaseTree) (pairs : List (Tok × Tok)) (operand : ExprTree) (rest : List Tok) → IsTrue (casts (record { base = base; dims = record { list = pairs } }) (expr_yield operand ++ rest)) → CastTakes base pairs (expr_yield operand)
 unfolding casts is_primitive
-casts_by (Prim word) [] value rest h = tt
-casts_by (Prim word) (pair ∷ pairs) value rest h = begins_before value rest h
-casts_by (Named class) pairs value rest h = begins_before value rest h
+casts_by (Prim word) [] operand rest h = tt
+casts_by (Prim word) (pair ∷ pairs) operand rest h = begins_before operand rest h
+casts_by (Named class) pairs operand rest h = begins_before operand rest h
 
-casts-CastTakes : (sort : TypeUseTree) (value : ExprTree) (rest : List Tok) → IsTrue (casts sort (expr_yield value ++ rest)) → CastTakes sort.base sort.dims.list (expr_yield value)
-casts-CastTakes sort value rest h = casts_by sort.base sort.dims.list value rest h
+casts-CastTakes : (used_type : TypeUseTree) (operand : ExprTree) (rest : List Tok) → IsTrue (casts used_type (expr_yield operand ++ rest)) → CastTakes used_type.base used_type.dims.list (expr_yield operand)
+casts-CastTakes used_type operand rest h = casts_by used_type.base used_type.dims.list operand rest h
 
 -- ---- one room from the room below it
 
@@ -91,72 +91,72 @@ module _ (m : ℕ) (p : Parsers) (s : AreSound m p) where
   abbrev IsReadAt : ℕ → List Tok → ExprTree → List Tok → Type 0
   IsReadAt level toks expr rest = Read (Good level (suc m)) expr_yield toks expr rest
 
-  step-sound : (whole : List Tok) (value : ExprTree) (toks : List Tok) (y : ExprTree × List Tok) → IsReadAt POSTFIX_LEVEL whole value toks → step m value toks ≡ Some y → IsReadAt POSTFIX_LEVEL whole y.0 y.1
+  step-sound : (whole : List Tok) (operand : ExprTree) (toks : List Tok) (y : ExprTree × List Tok) → IsReadAt POSTFIX_LEVEL whole operand toks → step m operand toks ≡ Some y → IsReadAt POSTFIX_LEVEL whole y.0 y.1
   unfolding step
-  step-sound whole value toks y known h = elim (of_when (nat_le (expr_depth value) m) _ y h) [
+  step-sound whole operand toks y known h = elim (of_when (nat_le (expr_depth operand) m) _ y h) [
     | passed room found ↦ elim (of_bind (token (is_op_of SUFFIXES) toks) _ _ found) [
       | bound op op_found same ↦
           let took = token_takes (is_op_of SUFFIXES) toks op op_found in
-          let shallow : expr_depth value ≤ m = leb-true (expr_depth value) m room in
-          let all : IsReadAt POSTFIX_LEVEL whole (Postfix value op.0) op.1 =
+          let shallow : expr_depth operand ≤ m = leb-true (expr_depth operand) m room in
+          let all : IsReadAt POSTFIX_LEVEL whole (Postfix operand op.0) op.1 =
           record {
-            fits = record { fits = (record { value_binds = known.fits.binds; op_is = took.is }, known.fits.fits); binds = omega arith; shallow = omega arith };
-            takes = known.takes ∙ ap (λ others. expr_yield value ++ others) took.takes ∙ sym (append_assoc (expr_yield value) (op.0 ∷ []) op.1);
+            fits = record { fits = (record { operand_binds = known.fits.binds; op_is = took.is }, known.fits.fits); binds = omega arith; shallow = omega arith };
+            takes = known.takes ∙ ap (λ others. expr_yield operand ++ others) took.takes ∙ sym (append_assoc (expr_yield operand) (op.0 ∷ []) op.1);
           } in
-          by_some (λ z. IsReadAt POSTFIX_LEVEL whole z.0 z.1) (Postfix value op.0, op.1) y same all
+          by_some (λ z. IsReadAt POSTFIX_LEVEL whole z.0 z.1) (Postfix operand op.0, op.1) y same all
     ]
   ]
 
   postfix-sound : IsSound (Good POSTFIX_LEVEL (suc m)) expr_yield (postfix m p)
   unfolding postfix
   postfix-sound toks y h = elim (of_bind (primary m p toks) _ _ h) [
-    | bound value found rest_found ↦
-        chain-keeps (IsReadAt POSTFIX_LEVEL toks) (step m) (λ on others next known turn. step-sound toks on others next known turn) (suc m) value.0 value.1 y
-        (looser_read POSTFIX_LEVEL PRIMARY_LEVEL (suc m) toks value.0 value.1 (omega arith) (primary-sound m p s toks value found)) rest_found
+    | bound operand found rest_found ↦
+        chain-keeps (IsReadAt POSTFIX_LEVEL toks) (step m) (λ on others next known turn. step-sound toks on others next known turn) (suc m) operand.0 operand.1 y
+        (looser_read POSTFIX_LEVEL PRIMARY_LEVEL (suc m) toks operand.0 operand.1 (omega arith) (primary-sound m p s toks operand found)) rest_found
   ]
 
   prefixed-sound : IsSound (Good UNARY_LEVEL (suc m)) expr_yield (prefixed p)
   unfolding prefixed
   prefixed-sound toks y h = elim (of_bind (token (is_op_of PREFIXES) toks) _ _ h) [
-    | bound op op_found value_found ↦ elim (of_bind (p.unary op.1) _ _ value_found) [
-      | bound value found same ↦
+    | bound op op_found operand_found ↦ elim (of_bind (p.unary op.1) _ _ operand_found) [
+      | bound operand found same ↦
           let took = token_takes (is_op_of PREFIXES) toks op op_found in
-          let part = s.unary op.1 value found in
-          let shallow : expr_depth value.0 ≤ m = part.fits.shallow in
-          let all : IsReadAt UNARY_LEVEL toks (Unary op.0 value.0) value.1 =
+          let part = s.unary op.1 operand found in
+          let shallow : expr_depth operand.0 ≤ m = part.fits.shallow in
+          let all : IsReadAt UNARY_LEVEL toks (Unary op.0 operand.0) operand.1 =
           record {
-            fits = record { fits = (record { op_is = took.is; value_binds = part.fits.binds }, part.fits.fits); binds = omega arith; shallow = omega arith };
+            fits = record { fits = (record { op_is = took.is; operand_binds = part.fits.binds }, part.fits.fits); binds = omega arith; shallow = omega arith };
             takes = took.takes ∙ ap (λ others. op.0 ∷ others) part.takes;
           } in
-          by_some (λ z. IsReadAt UNARY_LEVEL toks z.0 z.1) (Unary op.0 value.0, value.1) y same all
+          by_some (λ z. IsReadAt UNARY_LEVEL toks z.0 z.1) (Unary op.0 operand.0, operand.1) y same all
     ]
   ]
 
   cast-sound : IsSound (Good UNARY_LEVEL (suc m)) expr_yield (cast p)
   unfolding cast
   cast-sound toks y h = elim (of_bind (token (is_op LEFT_PAREN) toks) _ _ h) [
-    | bound left left_found sort_found ↦ elim (of_bind (type_use left.1) _ _ sort_found) [
-      | bound sort sort_is right_found ↦ elim (of_bind (token (is_op RIGHT_PAREN) sort.1) _ _ right_found) [
-        | bound right right_is value_found ↦ elim (of_bind (when (casts sort.0 right.1) (p.unary right.1)) _ _ value_found) [
-          | bound value value_is same ↦ elim (of_when (casts sort.0 right.1) (p.unary right.1) value value_is) [
+    | bound left left_found used_type_found ↦ elim (of_bind (type_use left.1) _ _ used_type_found) [
+      | bound used_type sort_is right_found ↦ elim (of_bind (token (is_op RIGHT_PAREN) used_type.1) _ _ right_found) [
+        | bound right right_is operand_found ↦ elim (of_bind (when (casts used_type.0 right.1) (p.unary right.1)) _ _ operand_found) [
+          | bound operand operand_is same ↦ elim (of_when (casts used_type.0 right.1) (p.unary right.1) operand operand_is) [
             | passed taken found ↦
                 let first = token_takes (is_op LEFT_PAREN) toks left left_found in
-                let second = type_use-sound left.1 sort sort_is in
-                let third = token_takes (is_op RIGHT_PAREN) sort.1 right right_is in
-                let part = s.unary right.1 value found in
-                let shallow : expr_depth value.0 ≤ m = part.fits.shallow in
-                let takes_value = casts-CastTakes sort.0 value.0 value.1 (subst (λ (others : List Tok). IsTrue (casts sort.0 others)) part.takes taken) in
-                let all : IsReadAt UNARY_LEVEL toks (Cast left.0 sort.0 right.0 value.0) value.1 =
+                let second = type_use-sound left.1 used_type sort_is in
+                let third = token_takes (is_op RIGHT_PAREN) used_type.1 right right_is in
+                let part = s.unary right.1 operand found in
+                let shallow : expr_depth operand.0 ≤ m = part.fits.shallow in
+                let takes_operand = casts-CastTakes used_type.0 operand.0 operand.1 (subst (λ (others : List Tok). IsTrue (casts used_type.0 others)) part.takes taken) in
+                let all : IsReadAt UNARY_LEVEL toks (Cast left.0 used_type.0 right.0 operand.0) operand.1 =
                 record {
                   fits = record {
-                    fits = (record { parens = (is_op-IsOp LEFT_PAREN left.0 first.is, is_op-IsOp RIGHT_PAREN right.0 third.is); value_binds = part.fits.binds; takes = takes_value }, second.fits, part.fits.fits);
+                    fits = (record { parens = (is_op-IsOp LEFT_PAREN left.0 first.is, is_op-IsOp RIGHT_PAREN right.0 third.is); operand_binds = part.fits.binds; takes = takes_operand }, second.fits, part.fits.fits);
                     binds = omega arith;
                     shallow = omega arith;
                   };
-                  takes = first.takes ∙ ap (λ others. left.0 ∷ others) (second.takes ∙ ap (λ others. type_yield sort.0 ++ others) (third.takes ∙ ap (λ others. right.0 ∷ others) part.takes)
-                      ∙ sym (append_assoc (type_yield sort.0) (right.0 ∷ expr_yield value.0) value.1));
+                  takes = first.takes ∙ ap (λ others. left.0 ∷ others) (second.takes ∙ ap (λ others. type_yield used_type.0 ++ others) (third.takes ∙ ap (λ others. right.0 ∷ others) part.takes)
+                      ∙ sym (append_assoc (type_yield used_type.0) (right.0 ∷ expr_yield operand.0) operand.1));
                 } in
-                by_some (λ z. IsReadAt UNARY_LEVEL toks z.0 z.1) (Cast left.0 sort.0 right.0 value.0, value.1) y same all
+                by_some (λ z. IsReadAt UNARY_LEVEL toks z.0 z.1) (Cast left.0 used_type.0 right.0 operand.0, operand.1) y same all
           ]
         ]
       ]
@@ -191,23 +191,23 @@ module _ (m : ℕ) (p : Parsers) (s : AreSound m p) where
     ]
   ]
 
-  instance-sound : (least : ℕ) (whole : List Tok) (value : ExprTree) (toks : List Tok) (y : ExprTree × List Tok) → IsReadAt least whole value toks → expr_depth value ≤ m → instance least value toks ≡ Some y → IsReadAt least whole y.0 y.1
+  instance-sound : (least : ℕ) (whole : List Tok) (operand : ExprTree) (toks : List Tok) (y : ExprTree × List Tok) → IsReadAt least whole operand toks → expr_depth operand ≤ m → instance least operand toks ≡ Some y → IsReadAt least whole y.0 y.1
   unfolding instance
-  instance-sound least whole value toks y known room h = elim (of_bind (when (nat_le least COMPARISON_LEVEL && nat_le COMPARISON_LEVEL (expr_level value)) (token (is_key INSTANCEOF) toks)) _ _ h) [
-    | bound word word_found sort_found ↦ elim (of_when (nat_le least COMPARISON_LEVEL && nat_le COMPARISON_LEVEL (expr_level value)) (token (is_key INSTANCEOF) toks) word word_found) [
-      | passed binds word_is ↦ elim (of_bind (type_use word.1) _ _ sort_found) [
-        | bound sort found same ↦
+  instance-sound least whole operand toks y known room h = elim (of_bind (when (nat_le least COMPARISON_LEVEL && nat_le COMPARISON_LEVEL (expr_level operand)) (token (is_key INSTANCEOF) toks)) _ _ h) [
+    | bound word word_found used_type_found ↦ elim (of_when (nat_le least COMPARISON_LEVEL && nat_le COMPARISON_LEVEL (expr_level operand)) (token (is_key INSTANCEOF) toks) word word_found) [
+      | passed binds word_is ↦ elim (of_bind (type_use word.1) _ _ used_type_found) [
+        | bound used_type found same ↦
             let took = token_takes (is_key INSTANCEOF) toks word word_is in
-            let tests = both (nat_le least COMPARISON_LEVEL) (nat_le COMPARISON_LEVEL (expr_level value)) binds in
+            let tests = both (nat_le least COMPARISON_LEVEL) (nat_le COMPARISON_LEVEL (expr_level operand)) binds in
             let tight : least ≤ COMPARISON_LEVEL = leb-true least COMPARISON_LEVEL tests.0 in
-            let value_binds : COMPARISON_LEVEL ≤ expr_level value = leb-true COMPARISON_LEVEL (expr_level value) tests.1 in
-            let part = type_use-sound word.1 sort found in
-            let all : IsReadAt least whole (Instance value word.0 sort.0) sort.1 =
+            let operand_binds : COMPARISON_LEVEL ≤ expr_level operand = leb-true COMPARISON_LEVEL (expr_level operand) tests.1 in
+            let part = type_use-sound word.1 used_type found in
+            let all : IsReadAt least whole (Instance operand word.0 used_type.0) used_type.1 =
             record {
-              fits = record { fits = (record { value_binds = value_binds; word_is = is_key-IsKey INSTANCEOF word.0 took.is }, known.fits.fits, part.fits); binds = tight; shallow = omega arith };
-              takes = known.takes ∙ ap (λ others. expr_yield value ++ others) (took.takes ∙ ap (λ others. word.0 ∷ others) part.takes) ∙ sym (append_assoc (expr_yield value) (word.0 ∷ type_yield sort.0) sort.1);
+              fits = record { fits = (record { operand_binds = operand_binds; word_is = is_key-IsKey INSTANCEOF word.0 took.is }, known.fits.fits, part.fits); binds = tight; shallow = omega arith };
+              takes = known.takes ∙ ap (λ others. expr_yield operand ++ others) (took.takes ∙ ap (λ others. word.0 ∷ others) part.takes) ∙ sym (append_assoc (expr_yield operand) (word.0 ∷ type_yield used_type.0) used_type.1);
             } in
-            by_some (λ z. IsReadAt least whole z.0 z.1) (Instance value word.0 sort.0, sort.1) y same all
+            by_some (λ z. IsReadAt least whole z.0 z.1) (Instance operand word.0 used_type.0, used_type.1) y same all
       ]
     ]
   ]
@@ -278,20 +278,20 @@ module _ (m : ℕ) (p : Parsers) (s : AreSound m p) where
   assignment-sound : (whole : List Tok) (left : ExprTree) (toks : List Tok) (y : ExprTree × List Tok) → IsReadAt CONDITIONAL_LEVEL whole left toks → assignment m p left toks ≡ Some y → IsReadAt ASSIGNMENT_LEVEL whole y.0 y.1
   unfolding assignment
   assignment-sound whole left toks y known h = elim (of_bind (when (is_left_side left && nat_le (expr_depth left) m) (token (is_op_of ASSIGNMENTS) toks)) _ _ h) [
-    | bound op op_found value_found ↦ elim (of_when (is_left_side left && nat_le (expr_depth left) m) (token (is_op_of ASSIGNMENTS) toks) op op_found) [
-      | passed may op_is ↦ elim (of_bind (p.expr op.1) _ _ value_found) [
-        | bound value found same ↦
+    | bound op op_found operand_found ↦ elim (of_when (is_left_side left && nat_le (expr_depth left) m) (token (is_op_of ASSIGNMENTS) toks) op op_found) [
+      | passed may op_is ↦ elim (of_bind (p.expr op.1) _ _ operand_found) [
+        | bound operand found same ↦
             let took = token_takes (is_op_of ASSIGNMENTS) toks op op_is in
-            let part = s.expr op.1 value found in
+            let part = s.expr op.1 operand found in
             let tests = both (is_left_side left) (nat_le (expr_depth left) m) may in
             let left_shallow : expr_depth left ≤ m = leb-true (expr_depth left) m tests.1 in
-            let shallow : expr_depth value.0 ≤ m = part.fits.shallow in
-            let all : IsReadAt ASSIGNMENT_LEVEL whole (Assign left op.0 value.0) value.1 =
+            let shallow : expr_depth operand.0 ≤ m = part.fits.shallow in
+            let all : IsReadAt ASSIGNMENT_LEVEL whole (Assign left op.0 operand.0) operand.1 =
             record {
               fits = record { fits = (record { left_side = is_left_side-IsLeftSide left tests.0; op_is = took.is }, known.fits.fits, part.fits.fits); binds = omega arith; shallow = omega arith };
-              takes = known.takes ∙ ap (λ others. expr_yield left ++ others) (took.takes ∙ ap (λ others. op.0 ∷ others) part.takes) ∙ sym (append_assoc (expr_yield left) (op.0 ∷ expr_yield value.0) value.1);
+              takes = known.takes ∙ ap (λ others. expr_yield left ++ others) (took.takes ∙ ap (λ others. op.0 ∷ others) part.takes) ∙ sym (append_assoc (expr_yield left) (op.0 ∷ expr_yield operand.0) operand.1);
             } in
-            by_some (λ z. IsReadAt ASSIGNMENT_LEVEL whole z.0 z.1) (Assign left op.0 value.0, value.1) y same all
+            by_some (λ z. IsReadAt ASSIGNMENT_LEVEL whole z.0 z.1) (Assign left op.0 operand.0, operand.1) y same all
       ]
     ]
   ]
@@ -312,7 +312,7 @@ module _ (m : ℕ) (p : Parsers) (s : AreSound m p) where
   unfolding init
   init-sound toks y = either_way (begins (is_op LEFT_BRACE) toks) _ _ y
       (made-sound (GoodBraces m) braces_yield (braces p) (GoodInit (suc m)) init_yield Braced (braces-sound m p s) (λ items good. let shallow : braces_depth items ≤ m = good.shallow in record { fits = good.fits; shallow = omega arith }) (λ items. refl) toks y)
-      (made-sound (Good ASSIGNMENT_LEVEL (suc m)) expr_yield (expr m p) (GoodInit (suc m)) init_yield Value expr-sound (λ value good. record { fits = good.fits; shallow = good.shallow }) (λ value. refl) toks y)
+      (made-sound (Good ASSIGNMENT_LEVEL (suc m)) expr_yield (expr m p) (GoodInit (suc m)) init_yield Expression expr-sound (λ operand good. record { fits = good.fits; shallow = good.shallow }) (λ operand. refl) toks y)
 
   with_room-sound : AreSound (suc m) (with_room m p)
   unfolding with_room

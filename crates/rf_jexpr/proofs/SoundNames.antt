@@ -71,11 +71,11 @@ pub type_use-sound : IsSound TypeFits type_yield type_use
 unfolding type_use
 type_use-sound toks y h = elim (of_bind (type_base toks) _ _ h) [
   | bound base base_found dims_found ↦ elim (of_bind (dims base.1) _ _ dims_found) [
-    | bound ends found same ↦
+    | bound bracket_pairs found same ↦
         let first = type_base-sound toks base base_found in
-        let second = dims-sound base.1 ends found in
-        let all : Read TypeFits type_yield toks (record { base = base.0; dims = ends.0 }) ends.1 =
-        record { fits = (first.fits, second.fits); takes = first.takes ∙ ap (λ others. base_yield base.0 ++ others) second.takes ∙ sym (append_assoc (base_yield base.0) (dims_yield ends.0) ends.1) } in
-        by_some (λ z. Read TypeFits type_yield toks z.0 z.1) (record { base = base.0; dims = ends.0 }, ends.1) y same all
+        let second = dims-sound base.1 bracket_pairs found in
+        let all : Read TypeFits type_yield toks (record { base = base.0; dims = bracket_pairs.0 }) bracket_pairs.1 =
+        record { fits = (first.fits, second.fits); takes = first.takes ∙ ap (λ others. base_yield base.0 ++ others) second.takes ∙ sym (append_assoc (base_yield base.0) (dims_yield bracket_pairs.0) bracket_pairs.1) } in
+        by_some (λ z. Read TypeFits type_yield toks z.0 z.1) (record { base = base.0; dims = bracket_pairs.0 }, bracket_pairs.1) y same all
   ]
 ]

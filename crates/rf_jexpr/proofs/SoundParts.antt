@@ -143,18 +143,18 @@ module _ (room : ℕ) (p : Parsers) (s : AreSound room p) where
   unfolding paren
   paren-sound toks y h = elim (of_bind (token (is_op LEFT_PAREN) toks) _ _ h) [
     | bound left left_found found ↦ elim (of_bind (p.expr left.1) _ _ found) [
-      | bound value value_found right_found ↦ elim (of_bind (token (is_op RIGHT_PAREN) value.1) _ _ right_found) [
+      | bound operand operand_found right_found ↦ elim (of_bind (token (is_op RIGHT_PAREN) operand.1) _ _ right_found) [
         | bound right found same ↦
             let first = token_takes (is_op LEFT_PAREN) toks left left_found in
-            let second = s.expr left.1 value value_found in
-            let third = token_takes (is_op RIGHT_PAREN) value.1 right found in
-            let shallow : expr_depth value.0 ≤ room = second.fits.shallow in
-            let all : Read (Good PRIMARY_LEVEL (suc room)) expr_yield toks (Paren left.0 value.0 right.0) right.1 =
+            let second = s.expr left.1 operand operand_found in
+            let third = token_takes (is_op RIGHT_PAREN) operand.1 right found in
+            let shallow : expr_depth operand.0 ≤ room = second.fits.shallow in
+            let all : Read (Good PRIMARY_LEVEL (suc room)) expr_yield toks (Paren left.0 operand.0 right.0) right.1 =
             record {
               fits = record { fits = ((is_op-IsOp LEFT_PAREN left.0 first.is, is_op-IsOp RIGHT_PAREN right.0 third.is), second.fits.fits); binds = omega arith; shallow = omega arith };
-              takes = closed_takes toks left.0 left.1 (expr_yield value.0) value.1 right.0 right.1 first.takes second.takes third.takes;
+              takes = closed_takes toks left.0 left.1 (expr_yield operand.0) operand.1 right.0 right.1 first.takes second.takes third.takes;
             } in
-            by_some (λ z. Read (Good PRIMARY_LEVEL (suc room)) expr_yield toks z.0 z.1) (Paren left.0 value.0 right.0, right.1) y same all
+            by_some (λ z. Read (Good PRIMARY_LEVEL (suc room)) expr_yield toks z.0 z.1) (Paren left.0 operand.0 right.0, right.1) y same all
       ]
     ]
   ]
@@ -183,17 +183,17 @@ module _ (room : ℕ) (p : Parsers) (s : AreSound room p) where
   unfolding sized
   sized-sound toks y h = elim (of_bind (token (is_op LEFT_BRACKET) toks) _ _ h) [
     | bound left left_found found ↦ elim (of_bind (p.expr left.1) _ _ found) [
-      | bound value value_found right_found ↦ elim (of_bind (token (is_op RIGHT_BRACKET) value.1) _ _ right_found) [
+      | bound operand operand_found right_found ↦ elim (of_bind (token (is_op RIGHT_BRACKET) operand.1) _ _ right_found) [
         | bound right found same ↦
             let first = token_takes (is_op LEFT_BRACKET) toks left left_found in
-            let second = s.expr left.1 value value_found in
-            let third = token_takes (is_op RIGHT_BRACKET) value.1 right found in
-            let all : Read (GoodSize room) size_yield toks (left.0, value.0, right.0) right.1 =
+            let second = s.expr left.1 operand operand_found in
+            let third = token_takes (is_op RIGHT_BRACKET) operand.1 right found in
+            let all : Read (GoodSize room) size_yield toks (left.0, operand.0, right.0) right.1 =
             record {
               fits = record { are_brackets = (is_op-IsOp LEFT_BRACKET left.0 first.is, is_op-IsOp RIGHT_BRACKET right.0 third.is); good = second.fits };
-              takes = closed_takes toks left.0 left.1 (expr_yield value.0) value.1 right.0 right.1 first.takes second.takes third.takes;
+              takes = closed_takes toks left.0 left.1 (expr_yield operand.0) operand.1 right.0 right.1 first.takes second.takes third.takes;
             } in
-            by_some (λ z. Read (GoodSize room) size_yield toks z.0 z.1) ((left.0, value.0, right.0), right.1) y same all
+            by_some (λ z. Read (GoodSize room) size_yield toks z.0 z.1) ((left.0, operand.0, right.0), right.1) y same all
       ]
     ]
   ]

@@ -55,14 +55,14 @@ is_no_name-IsNoName expr h = tt
 
 is_no_new_array-IsNoNewArray : (expr : ExprTree) → IsTrue (is_no_new_array expr) → IsNoNewArray expr
 unfolding is_no_new_array
-is_no_new_array-IsNoNewArray (NewArray word base sizes ends) h = absurd (cc)
+is_no_new_array-IsNoNewArray (NewArray word base sizes bracket_pairs) h = absurd (cc)
 is_no_new_array-IsNoNewArray expr h = tt
 
 -- ---- creations
 
-has_brackets-HasBrackets : (ends : Dims) → IsTrue (has_brackets ends) → HasBrackets ends
+has_brackets-HasBrackets : (bracket_pairs : Dims) → IsTrue (has_brackets bracket_pairs) → HasBrackets bracket_pairs
 unfolding has_brackets
-has_brackets-HasBrackets ends is none = absurd (cc (rw none at is))
+has_brackets-HasBrackets bracket_pairs is none = absurd (cc (rw none at is))
 
 -- ---- the identifiers of a name that is called
 
@@ -146,18 +146,18 @@ module _ (m : ℕ) (p : Parsers) (s : AreSound m p) where
   new_filled-sound : (word : Tok) (base : TypeBaseTree) (toks whole : List Tok) (y : ExprTree × List Tok) → IsKey NEW word → BaseFits base → whole ≡ word ∷ (base_yield base ++ toks) → new_filled p word base toks ≡ Some y → IsPrimaryRead whole y.0 y.1
   unfolding new_filled
   new_filled-sound word base toks whole y is fits takes h = elim (of_bind (dims toks) _ _ h) [
-    | bound ends ends_found found ↦ elim (of_bind (when (has_brackets ends.0) (braces p ends.1)) _ _ found) [
-      | bound items items_found same ↦ elim (of_when (has_brackets ends.0) (braces p ends.1) items items_found) [
+    | bound bracket_pairs ends_found found ↦ elim (of_bind (when (has_brackets bracket_pairs.0) (braces p bracket_pairs.1)) _ _ found) [
+      | bound items items_found same ↦ elim (of_when (has_brackets bracket_pairs.0) (braces p bracket_pairs.1) items items_found) [
         | passed some braces_found ↦
-            let first = dims-sound toks ends ends_found in
-            let second = braces-sound m p s ends.1 items braces_found in
+            let first = dims-sound toks bracket_pairs ends_found in
+            let second = braces-sound m p s bracket_pairs.1 items braces_found in
             let shallow : braces_depth items.0 ≤ m = second.fits.shallow in
-            let all : IsPrimaryRead whole (NewInit word base ends.0 items.0) items.1 =
+            let all : IsPrimaryRead whole (NewInit word base bracket_pairs.0 items.0) items.1 =
             record {
-              fits = record { fits = (is, fits, has_brackets-HasBrackets ends.0 some, first.fits, second.fits.fits); binds = omega arith; shallow = omega arith };
-              takes = takes ∙ ap (λ others. word ∷ others) (three_parts (base_yield base) toks (dims_yield ends.0) ends.1 (braces_yield items.0) items.1 first.takes second.takes);
+              fits = record { fits = (is, fits, has_brackets-HasBrackets bracket_pairs.0 some, first.fits, second.fits.fits); binds = omega arith; shallow = omega arith };
+              takes = takes ∙ ap (λ others. word ∷ others) (three_parts (base_yield base) toks (dims_yield bracket_pairs.0) bracket_pairs.1 (braces_yield items.0) items.1 first.takes second.takes);
             } in
-            by_some (λ z. IsPrimaryRead whole z.0 z.1) (NewInit word base ends.0 items.0, items.1) y same all
+            by_some (λ z. IsPrimaryRead whole z.0 z.1) (NewInit word base bracket_pairs.0 items.0, items.1) y same all
       ]
     ]
   ]
@@ -167,16 +167,16 @@ module _ (m : ℕ) (p : Parsers) (s : AreSound m p) where
   unfolding new_array
   new_array-sound word base [] toks whole y is fits each takes h = new_filled-sound word base toks whole y is fits takes h
   new_array-sound word base (size ∷ sizes) toks whole y is fits each takes h = elim (of_bind (dims toks) _ _ h) [
-    | bound ends found same ↦
-        let first = dims-sound toks ends found in
+    | bound bracket_pairs found same ↦
+        let first = dims-sound toks bracket_pairs found in
         let shallow : sizes_depth (sizes_tree (size ∷ sizes)) ≤ m = sizes-shallow m (size ∷ sizes) each in
-        let all : IsPrimaryRead whole (NewArray word base (sizes_tree (size ∷ sizes)) ends.0) ends.1 =
+        let all : IsPrimaryRead whole (NewArray word base (sizes_tree (size ∷ sizes)) bracket_pairs.0) bracket_pairs.1 =
         record {
           fits = record { fits = (is, fits, tt, sizes-fit m (size ∷ sizes) each, first.fits); binds = omega arith; shallow = omega arith };
-          takes = takes ∙ ap (λ others. word ∷ others) (three_parts (base_yield base) (flat_map size_yield (size ∷ sizes) ++ toks) (sizes_yield (sizes_tree (size ∷ sizes))) toks (dims_yield ends.0) ends.1
+          takes = takes ∙ ap (λ others. word ∷ others) (three_parts (base_yield base) (flat_map size_yield (size ∷ sizes) ++ toks) (sizes_yield (sizes_tree (size ∷ sizes))) toks (dims_yield bracket_pairs.0) bracket_pairs.1
               (ap (λ front. front ++ toks) (sizes_yield-tree (size ∷ sizes))) first.takes);
         } in
-        by_some (λ z. IsPrimaryRead whole z.0 z.1) (NewArray word base (sizes_tree (size ∷ sizes)) ends.0, ends.1) y same all
+        by_some (λ z. IsPrimaryRead whole z.0 z.1) (NewArray word base (sizes_tree (size ∷ sizes)) bracket_pairs.0, bracket_pairs.1) y same all
   ]
 
   pub creation-sound : IsSound (Good PRIMARY_LEVEL (suc m)) expr_yield (creation p)

@@ -18,16 +18,16 @@ module _ (m : ℕ) (read : Reads ExprTree) (turn : ExprTree → Reads ExprTree) 
   stands_first expr rest h = record { turns = suc m; enough = omega arith; reads = h }
 
   -- a turn further
-  pub stands_turn : (value expr : ExprTree) (between rest : List Tok) → Stands m read turn value between → expr_depth value ≤ m → suc (expr_depth value) ≤ expr_depth expr
-      → expr_yield expr ++ rest ≡ expr_yield value ++ between → turn value between ≡ Some (expr, rest) → Stands m read turn expr rest
-  stands_turn value expr between rest stands shallow deeper tokens found = by_turns stands.turns stands.enough stands.reads
+  pub stands_turn : (operand expr : ExprTree) (between rest : List Tok) → Stands m read turn operand between → expr_depth operand ≤ m → suc (expr_depth operand) ≤ expr_depth expr
+      → expr_yield expr ++ rest ≡ expr_yield operand ++ between → turn operand between ≡ Some (expr, rest) → Stands m read turn expr rest
+  stands_turn operand expr between rest stands shallow deeper tokens found = by_turns stands.turns stands.enough stands.reads
     where
-      by_turns : (turns : ℕ) → suc m ≤ turns + expr_depth value → read (expr_yield value ++ between) ≡ chain turn turns value between → Stands m read turn expr rest
+      by_turns : (turns : ℕ) → suc m ≤ turns + expr_depth operand → read (expr_yield operand ++ between) ≡ chain turn turns operand between → Stands m read turn expr rest
       by_turns zero enough reads = absurd (omega arith)
       by_turns (suc turns) enough reads = record {
         turns = turns;
         enough = omega arith;
-        reads = ap read tokens ∙ reads ∙ chain-turn turn turns value between (expr, rest) found;
+        reads = ap read tokens ∙ reads ∙ chain-turn turn turns operand between (expr, rest) found;
       }
 
   -- it answers what it has in hand, where no turn follows
@@ -42,12 +42,12 @@ module _ (m : ℕ) (read : Reads ExprTree) (turn : ExprTree → Reads ExprTree) 
         reaches-Some n _ reached.to (stands.reads ∙ reached.reads) reached.left
 
     -- so it does where one turn follows that leaves no more
-    pub stands_turn_far : (value expr : ExprTree) (between rest : List Tok) → Stands m read turn value between → expr_depth value ≤ m
-        → expr_yield expr ++ rest ≡ expr_yield value ++ between → Reaches (length rest) (turn value between) → Reaches (length rest) (read (expr_yield expr ++ rest))
-    stands_turn_far value expr between rest stands shallow tokens next = by_turns stands.turns stands.enough stands.reads
+    pub stands_turn_far : (operand expr : ExprTree) (between rest : List Tok) → Stands m read turn operand between → expr_depth operand ≤ m
+        → expr_yield expr ++ rest ≡ expr_yield operand ++ between → Reaches (length rest) (turn operand between) → Reaches (length rest) (read (expr_yield expr ++ rest))
+    stands_turn_far operand expr between rest stands shallow tokens next = by_turns stands.turns stands.enough stands.reads
       where
-        by_turns : (turns : ℕ) → suc m ≤ turns + expr_depth value → read (expr_yield value ++ between) ≡ chain turn turns value between → Reaches (length rest) (read (expr_yield expr ++ rest))
+        by_turns : (turns : ℕ) → suc m ≤ turns + expr_depth operand → read (expr_yield operand ++ between) ≡ chain turn turns operand between → Reaches (length rest) (read (expr_yield expr ++ rest))
         by_turns zero enough reads = absurd (omega arith)
         by_turns (suc turns) enough reads =
             let reached = reaches-chain turn bounded turns (length rest) next.to.0 next.to.1 next.left in
-            reaches-Some (length rest) _ reached.to (ap read tokens ∙ reads ∙ chain-turn turn turns value between next.to next.reads ∙ reached.reads) reached.left
+            reaches-Some (length rest) _ reached.to (ap read tokens ∙ reads ∙ chain-turn turn turns operand between next.to next.reads ∙ reached.reads) reached.left

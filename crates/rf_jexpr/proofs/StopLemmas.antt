@@ -15,7 +15,7 @@ use Rattle.rf_jtree.specs.Kinds.{IsOp, IsKey, is_op_of, has_op}
 use Rattle.rf_jtree.specs.Levels.{binary_level, op_level}
 use Rattle.rf_jexpr.specs.Reads.{is_op, is_key, begins}
 use Rattle.rf_jexpr.proofs.Tools.{both, and_true, is_op-IsOp}
-use Rattle.rf_jexpr.specs.Stops.{joins, tests_sort, asks, assigns, goes_on, stops, Stops}
+use Rattle.rf_jexpr.specs.Stops.{joins, tests_used_type, asks, assigns, goes_on, stops, Stops}
 
 -- ---- tests
 
@@ -77,7 +77,7 @@ pub record Stopped (level : ℕ) (toks : List Tok) : Type 0 where
   pub suffix : begins (is_op_of SUFFIXES) toks ≡ false
   pub operand : begins begins_operand toks ≡ false
   pub operator : begins (joins level) toks ≡ false
-  pub instance : begins (tests_sort level) toks ≡ false
+  pub instance : begins (tests_used_type level) toks ≡ false
   pub question : begins (asks level) toks ≡ false
   pub assignment : begins (assigns level) toks ≡ false
 
@@ -113,7 +113,7 @@ begins_weaker test weak implies [] h = refl
 begins_weaker test weak implies (tok ∷ toks) h = weaker (test tok) (weak tok) (implies tok) h
 
 pub stops_tighter : (level tighter : ℕ) → level ≤ tighter → (toks : List Tok) → Stops level toks → Stops tighter toks
-unfolding joins tests_sort asks assigns
+unfolding joins tests_used_type asks assigns
 stops_tighter level tighter h toks k =
     let s = stopped level toks k in
     stops_of tighter toks (record {
@@ -122,7 +122,7 @@ stops_tighter level tighter h toks k =
       suffix = s.suffix;
       operand = s.operand;
       operator = begins_weaker (joins tighter) (joins level) (λ tok. and_weaker _ _ _ (le_weaker level tighter (binary_level tok) h)) toks s.operator;
-      instance = begins_weaker (tests_sort tighter) (tests_sort level) (λ tok. and_weaker _ _ _ (le_weaker level tighter COMPARISON_LEVEL h)) toks s.instance;
+      instance = begins_weaker (tests_used_type tighter) (tests_used_type level) (λ tok. and_weaker _ _ _ (le_weaker level tighter COMPARISON_LEVEL h)) toks s.instance;
       question = begins_weaker (asks tighter) (asks level) (λ tok. and_weaker _ _ _ (le_weaker level tighter CONDITIONAL_LEVEL h)) toks s.question;
       assignment = begins_weaker (assigns tighter) (assigns level) (λ tok. and_weaker _ _ _ (le_weaker level tighter ASSIGNMENT_LEVEL h)) toks s.assignment;
     })
@@ -133,43 +133,43 @@ unfolding stops begins
 stops_end level = refl
 
 pub stops_comma : (tok : Tok) (toks : List Tok) → IsOp COMMA tok → Stops ASSIGNMENT_LEVEL (tok ∷ toks)
-unfolding stops begins goes_on joins tests_sort asks assigns is_op is_key
+unfolding stops begins goes_on joins tests_used_type asks assigns is_op is_key
 stops_comma tok toks h = rw h refl
 
 pub stops_semicolon : (tok : Tok) (toks : List Tok) → IsOp SEMICOLON tok → Stops ASSIGNMENT_LEVEL (tok ∷ toks)
-unfolding stops begins goes_on joins tests_sort asks assigns is_op is_key
+unfolding stops begins goes_on joins tests_used_type asks assigns is_op is_key
 stops_semicolon tok toks h = rw h refl
 
 pub stops_colon : (tok : Tok) (toks : List Tok) → IsOp COLON tok → Stops ASSIGNMENT_LEVEL (tok ∷ toks)
-unfolding stops begins goes_on joins tests_sort asks assigns is_op is_key
+unfolding stops begins goes_on joins tests_used_type asks assigns is_op is_key
 stops_colon tok toks h = rw h refl
 
 pub stops_paren : (tok : Tok) (toks : List Tok) → IsOp RIGHT_PAREN tok → Stops ASSIGNMENT_LEVEL (tok ∷ toks)
-unfolding stops begins goes_on joins tests_sort asks assigns is_op is_key
+unfolding stops begins goes_on joins tests_used_type asks assigns is_op is_key
 stops_paren tok toks h = rw h refl
 
 pub stops_bracket : (tok : Tok) (toks : List Tok) → IsOp RIGHT_BRACKET tok → Stops ASSIGNMENT_LEVEL (tok ∷ toks)
-unfolding stops begins goes_on joins tests_sort asks assigns is_op is_key
+unfolding stops begins goes_on joins tests_used_type asks assigns is_op is_key
 stops_bracket tok toks h = rw h refl
 
 pub stops_brace : (tok : Tok) (toks : List Tok) → IsOp RIGHT_BRACE tok → Stops ASSIGNMENT_LEVEL (tok ∷ toks)
-unfolding stops begins goes_on joins tests_sort asks assigns is_op is_key
+unfolding stops begins goes_on joins tests_used_type asks assigns is_op is_key
 stops_brace tok toks h = rw h refl
 
 -- A `?` stops what is tighter than a conditional, an assignment operator what is no assignment, and so on.
 pub stops_question : (tok : Tok) (toks : List Tok) → IsOp QUESTION tok → Stops OR_OR_LEVEL (tok ∷ toks)
-unfolding stops begins goes_on joins tests_sort asks assigns is_op is_key
+unfolding stops begins goes_on joins tests_used_type asks assigns is_op is_key
 stops_question tok toks h = rw h refl
 
 pub stops_instanceof : (tok : Tok) (toks : List Tok) → IsKey INSTANCEOF tok → Stops SHIFT_LEVEL (tok ∷ toks)
-unfolding stops begins goes_on joins tests_sort asks assigns is_op is_key
+unfolding stops begins goes_on joins tests_used_type asks assigns is_op is_key
 stops_instanceof tok toks h = rw h refl
 
 unfoldable pub of_kind : TokKind → Tok
 of_kind k = record { kind = k; lead = []; text = [] }
 
 pub stops_assigns : (tok : Tok) (toks : List Tok) → IsTrue (is_op_of ASSIGNMENTS tok) → Stops CONDITIONAL_LEVEL (tok ∷ toks)
-unfolding stops begins goes_on joins tests_sort asks assigns is_op is_key of_kind
+unfolding stops begins goes_on joins tests_used_type asks assigns is_op is_key of_kind
 stops_assigns tok toks h = not_false _ (apart_tok (λ k. goes_on CONDITIONAL_LEVEL (of_kind k)) ASSIGNMENTS refl tok h)
 
 -- a binary operator is none of these
@@ -207,7 +207,7 @@ and_false false = refl
 
 -- A binary operator stops what is tighter.
 pub stops_operator : (level : ℕ) (tok : Tok) (toks : List Tok) → OR_OR_LEVEL ≤ binary_level tok → binary_level tok < level → Stops level (tok ∷ toks)
-unfolding begins joins tests_sort asks assigns
+unfolding begins joins tests_used_type asks assigns
 stops_operator level tok toks h k = stops_of level (tok ∷ toks) (record {
   dot = no_op DOT refl tok h;
   bracket = no_op LEFT_BRACKET refl tok h;

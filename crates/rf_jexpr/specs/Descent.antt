@@ -5,7 +5,7 @@ use Rattle.rf_jtree.specs.declared.levels.TheConstants.{OR_OR_LEVEL, COMPARISON_
 use Rattle.rf_jtree.specs.declared.operator_names.TheConstants.{LEFT_PAREN, RIGHT_PAREN, LEFT_BRACE, QUESTION, COLON, ASSIGNMENTS, PREFIXES, SUFFIXES}
 use Rattle.rf_jtree.specs.declared.keyword_names.TheConstants.{INSTANCEOF}
 use Rattle.rf_jtree.specs.ExprFits.{begins_operand}
-use Rattle.rf_jtree.specs.ExprTrees.{ExprTree, Assign, Cond, Binary, Instance, Unary, Cast, Postfix, Name, Field, Super, Index, NoArgs, InitTree, Value, Braced, expr_depth}
+use Rattle.rf_jtree.specs.ExprTrees.{ExprTree, Assign, Cond, Binary, Instance, Unary, Cast, Postfix, Name, Field, Super, Index, NoArgs, InitTree, Expression, Braced, expr_depth}
 use Rattle.rf_jtree.specs.Kinds.{is_op_of}
 use Rattle.rf_jtree.specs.Levels.{binary_level, expr_level}
 use Rattle.rf_jtree.specs.NameTrees.{TypeBaseTree, Prim, Named, TypeUseTree}
@@ -16,22 +16,22 @@ use Rattle.rf_jexpr.specs.Reads.{Reads, ◌>>=◌, or_else, when, is_op, is_key,
 
 -- `++` or `--` behind an operand (JLS 15.14)
 unfoldable pub step : ℕ → ExprTree → Reads ExprTree
-step m value toks = when (nat_le (expr_depth value) m) (token (is_op_of SUFFIXES) toks >>= λ op. Some (Postfix value op.0, op.1))
+step m operand toks = when (nat_le (expr_depth operand) m) (token (is_op_of SUFFIXES) toks >>= λ op. Some (Postfix operand op.0, op.1))
 
 unfoldable pub postfix : ℕ → Parsers → Reads ExprTree
-postfix m p toks = primary m p toks >>= λ value. chain (step m) (suc m) value.0 value.1
+postfix m p toks = primary m p toks >>= λ operand. chain (step m) (suc m) operand.0 operand.1
 
 -- a prefix operator and its operand (JLS 15.15)
 unfoldable pub prefixed : Parsers → Reads ExprTree
 prefixed p toks = do
   op ← token (is_op_of PREFIXES) toks
-  value ← p.unary op.1
-  Some (Unary op.0 value.0, value.1)
+  operand ← p.unary op.1
+  Some (Unary op.0 operand.0, operand.1)
 
 -- A type in parentheses is a cast where it is a primitive type without brackets, and else where such an operand follows
 -- (JLS 15.16).
 unfoldable pub is_primitive : TypeUseTree → Bool
-is_primitive sort = is_bare sort.base sort.dims.list
+is_primitive used_type = is_bare used_type.base used_type.dims.list
   where
     is_bare : TypeBaseTree → List (Tok × Tok) → Bool
     is_bare (Prim word) [] = true
@@ -39,15 +39,15 @@ is_primitive sort = is_bare sort.base sort.dims.list
     is_bare (Named class) pairs = false
 
 unfoldable pub casts : TypeUseTree → List Tok → Bool
-casts sort toks = if is_primitive sort then true else begins begins_operand toks
+casts used_type toks = if is_primitive used_type then true else begins begins_operand toks
 
 unfoldable pub cast : Parsers → Reads ExprTree
 cast p toks = do
   left ← token (is_op LEFT_PAREN) toks
-  sort ← type_use left.1
-  right ← token (is_op RIGHT_PAREN) sort.1
-  value ← when (casts sort.0 right.1) (p.unary right.1)
-  Some (Cast left.0 sort.0 right.0 value.0, value.1)
+  used_type ← type_use left.1
+  right ← token (is_op RIGHT_PAREN) used_type.1
+  operand ← when (casts used_type.0 right.1) (p.unary right.1)
+  Some (Cast left.0 used_type.0 right.0 operand.0, operand.1)
 
 unfoldable pub unary : ℕ → Parsers → Reads ExprTree
 unary m p toks = if begins (is_op_of PREFIXES) toks then prefixed p toks else or_else (cast p toks) (postfix m p toks)
@@ -64,10 +64,10 @@ operation p least left toks = do
 
 -- `instanceof` and its type (JLS 15.20.2)
 unfoldable pub instance : (least : ℕ) → ExprTree → Reads ExprTree
-instance least value toks = do
-  word ← when (nat_le least COMPARISON_LEVEL && nat_le COMPARISON_LEVEL (expr_level value)) (token (is_key INSTANCEOF) toks)
-  sort ← type_use word.1
-  Some (Instance value word.0 sort.0, sort.1)
+instance least operand toks = do
+  word ← when (nat_le least COMPARISON_LEVEL && nat_le COMPARISON_LEVEL (expr_level operand)) (token (is_key INSTANCEOF) toks)
+  used_type ← type_use word.1
+  Some (Instance operand word.0 used_type.0, used_type.1)
 
 unfoldable pub operator : ℕ → Parsers → (least : ℕ) → ExprTree → Reads ExprTree
 operator m p least left toks =
@@ -92,17 +92,17 @@ conditional m p toks = binary m p OR_OR_LEVEL toks >>= λ test. or_else (choice 
 -- a name, a field or an item of an array (JLS 15.26)
 unfoldable pub is_left_side : ExprTree → Bool
 is_left_side (Name found) = true
-is_left_side (Field value dot id) = true
+is_left_side (Field operand dot id) = true
 is_left_side (Super word dot id NoArgs) = true
-is_left_side (Index value left index right) = true
+is_left_side (Index operand left index right) = true
 is_left_side expr = false
 
 -- an assignment operator and its value behind a left side (JLS 15.26)
 unfoldable pub assignment : ℕ → Parsers → ExprTree → Reads ExprTree
 assignment m p left toks = do
   op ← when (is_left_side left && nat_le (expr_depth left) m) (token (is_op_of ASSIGNMENTS) toks)
-  value ← p.expr op.1
-  Some (Assign left op.0 value.0, value.1)
+  operand ← p.expr op.1
+  Some (Assign left op.0 operand.0, operand.1)
 
 unfoldable pub expr : ℕ → Parsers → Reads ExprTree
 expr m p toks = conditional m p toks >>= λ left. or_else (assignment m p left.0 left.1) (Some left)
@@ -111,7 +111,7 @@ expr m p toks = conditional m p toks >>= λ left. or_else (assignment m p left.0
 unfoldable pub init : ℕ → Parsers → Reads InitTree
 init m p toks =
     if begins (is_op LEFT_BRACE) toks then (braces p toks >>= λ items. Some (Braced items.0, items.1))
-    else (expr m p toks >>= λ value. Some (Value value.0, value.1))
+    else (expr m p toks >>= λ operand. Some (Expression operand.0, operand.1))
 
 -- those of no room, which read nothing, and those of one more
 unfoldable pub nothing : Parsers

@@ -17,7 +17,7 @@ IsKnown x = x.depth ≡ expr_depth (boxed_shown x.tree)
 
 -- a step behind an expression
 abbrev pub IsStepped : Found (Box Expr Global) → Taken Tok → Found (Box Expr Global) → Type 0
-IsStepped value op x = (boxed_shown x.tree ≡ Postfix (boxed_shown value.tree) op.item) × (x.end ≡ op.end) × (x.depth ≡ value.depth + 1)
+IsStepped operand op x = (boxed_shown x.tree ≡ Postfix (boxed_shown operand.tree) op.item) × (x.end ≡ op.end) × (x.depth ≡ operand.depth + 1)
 
 -- what was read, from behind its pointer
 abbrev pub unboxed : {A : Type 0} → Found (Box A Global) → Found A
@@ -50,4 +50,4 @@ super_args_found_depth list = super_args_depth (super_args_tree list)
 
 -- the greater expression of what stands behind one, and one
 abbrev pub IsJoined : {A : Type 0} → (A → ExprTree) → Found A → Found (Box Expr Global) → Type 0
-IsJoined joined tail x = (boxed_shown x.tree ≡ joined tail.tree) × (x.end ≡ tail.end) × (x.depth ≡ tail.depth)
+IsJoined joined continuation x = (boxed_shown x.tree ≡ joined continuation.tree) × (x.end ≡ continuation.end) × (x.depth ≡ continuation.depth)

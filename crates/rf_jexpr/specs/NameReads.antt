@@ -36,5 +36,5 @@ type_base toks = if begins (is_key_of PRIMITIVES) toks then primitive toks else 
 unfoldable pub type_use : Reads TypeUseTree
 type_use toks = do
   base ← type_base toks
-  ends ← dims base.1
-  Some (record { base = base.0; dims = ends.0 }, ends.1)
+  bracket_pairs ← dims base.1
+  Some (record { base = base.0; dims = bracket_pairs.0 }, bracket_pairs.1)

@@ -22,9 +22,9 @@ pub record Parsers : Type 0 where
 unfoldable pub paren : Parsers → Reads ExprTree
 paren p toks = do
   left ← token (is_op LEFT_PAREN) toks
-  value ← p.expr left.1
-  right ← token (is_op RIGHT_PAREN) value.1
-  Some (Paren left.0 value.0 right.0, right.1)
+  operand ← p.expr left.1
+  right ← token (is_op RIGHT_PAREN) operand.1
+  Some (Paren left.0 operand.0 right.0, right.1)
 
 -- arguments in parentheses (JLS 15.12)
 unfoldable pub args : Parsers → Reads ArgsTree
@@ -38,9 +38,9 @@ args p toks = do
 unfoldable pub sized : Parsers → Reads (Tok × ExprTree × Tok)
 sized p toks = do
   left ← token (is_op LEFT_BRACKET) toks
-  value ← p.expr left.1
-  right ← token (is_op RIGHT_BRACKET) value.1
-  Some ((left.0, value.0, right.0), right.1)
+  operand ← p.expr left.1
+  right ← token (is_op RIGHT_BRACKET) operand.1
+  Some ((left.0, operand.0, right.0), right.1)
 
 -- items in braces, with a comma behind the last one or without (JLS 10.6)
 unfoldable pub braces : Parsers → Reads BracesTree

@@ -43,14 +43,14 @@ has_brackets found = has_some found.list
 -- `new T[]..{..}` (JLS 15.10)
 unfoldable pub new_filled : Parsers → Tok → TypeBaseTree → Reads ExprTree
 new_filled p word base toks = do
-  ends ← dims toks
-  items ← when (has_brackets ends.0) (braces p ends.1)
-  Some (NewInit word base ends.0 items.0, items.1)
+  bracket_pairs ← dims toks
+  items ← when (has_brackets bracket_pairs.0) (braces p bracket_pairs.1)
+  Some (NewInit word base bracket_pairs.0 items.0, items.1)
 
 -- a new array, behind its sizes (JLS 15.10)
 unfoldable pub new_array : Parsers → Tok → TypeBaseTree → List (Tok × ExprTree × Tok) → Reads ExprTree
 new_array p word base [] toks = new_filled p word base toks
-new_array p word base (size ∷ sizes) toks = dims toks >>= λ ends. Some (NewArray word base (sizes_tree (size ∷ sizes)) ends.0, ends.1)
+new_array p word base (size ∷ sizes) toks = dims toks >>= λ bracket_pairs. Some (NewArray word base (sizes_tree (size ∷ sizes)) bracket_pairs.0, bracket_pairs.1)
 
 unfoldable pub creation : Parsers → Reads ExprTree
 creation p toks = do
@@ -100,7 +100,7 @@ member p on toks = do
   or_else (member_call p on dot.0 id.0 id.1) (field on dot.0 id.0 id.1)
 
 unfoldable pub is_no_new_array : ExprTree → Bool
-is_no_new_array (NewArray word base sizes ends) = false
+is_no_new_array (NewArray word base sizes bracket_pairs) = false
 is_no_new_array expr = true
 
 -- `[..]` behind an expression, but for a new array, to which they belong (JLS 15.10, 15.13)

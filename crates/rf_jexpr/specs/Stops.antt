@@ -18,8 +18,8 @@ unfoldable pub joins : ℕ → Tok → Bool
 joins level tok = nat_le level (binary_level tok) && nat_le OR_OR_LEVEL (binary_level tok)
 
 -- `instanceof`, `?` or an assignment operator, where they go on with an expression of this level
-unfoldable pub tests_sort : ℕ → Tok → Bool
-tests_sort level tok = nat_le level COMPARISON_LEVEL && is_key INSTANCEOF tok
+unfoldable pub tests_used_type : ℕ → Tok → Bool
+tests_used_type level tok = nat_le level COMPARISON_LEVEL && is_key INSTANCEOF tok
 
 unfoldable pub asks : ℕ → Tok → Bool
 asks level tok = nat_le level CONDITIONAL_LEVEL && is_op QUESTION tok
@@ -31,7 +31,7 @@ assigns level tok = nat_le level ASSIGNMENT_LEVEL && is_op_of ASSIGNMENTS tok
 -- begins with, since it makes arguments of a `(` and a cast of a name in parentheses.
 unfoldable pub goes_on : ℕ → Tok → Bool
 goes_on level tok =
-    is_op DOT tok || (is_op LEFT_BRACKET tok || (is_op_of SUFFIXES tok || (begins_operand tok || (joins level tok || (tests_sort level tok || (asks level tok || assigns level tok))))))
+    is_op DOT tok || (is_op LEFT_BRACKET tok || (is_op_of SUFFIXES tok || (begins_operand tok || (joins level tok || (tests_used_type level tok || (asks level tok || assigns level tok))))))
 
 -- With these tokens behind it, an expression of this level is over.
 unfoldable pub stops : ℕ → List Tok → Bool

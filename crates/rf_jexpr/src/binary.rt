@@ -7,18 +7,18 @@ ghost use Rattle.rf_jexpr.specs.Gives.{Gives, GivesTree};
 ghost use Rattle.rf_jmake.specs.ExprMade.{boxed_shown};
 ghost use Rattle.rf_jexpr.specs.Made.{IsKnown};
 ghost use Rattle.rf_jexpr.specs.Reads.{token};
-ghost use Rattle.rf_jmake.specs.Tails.{operated};
+ghost use Rattle.rf_jmake.specs.Continuations.{operated};
 
 use crate::ParseErr;
+use crate::continuations::operated;
 use crate::cursor::{Want, is_at, take, tok_at};
 use crate::found::{Found, Taken, attempt, deeper};
 use crate::names::type_use;
-use crate::tails::operated;
 use crate::unary::unary;
 use rf_jfit::expr_level;
 use rf_jfit::levels::binary_level;
+use rf_jmake::continuations::{Continuation, Operation};
 use rf_jmake::put;
-use rf_jmake::tails::{Operation, Tail};
 use rf_jtree::keyword_names::INSTANCEOF;
 use rf_jtree::levels::COMPARISON_LEVEL;
 use rf_jtree::{Expr, Tok};
@@ -69,25 +69,25 @@ fn instance(
     alloc: Global,
     t: &[Tok],
     least: usize,
-    value: &Found<Box<Expr>>,
-) -> Result<Found<Tail>, ParseErr>
-    requires known { IsKnown value.now }
-    requires small { value.now.depth < 2 ^ 62 }
-    ensures gives { GivesTree (operated (boxed_shown value.now.tree)) expr_depth
-        (value.now.depth + 1) t.now value.now.end result
-        (instance least (boxed_shown value.now.tree) (drop value.now.end t.now)) }
-    ensures deeper { IfOk result (λ x. value.now.depth < x.depth) }
+    operand: &Found<Box<Expr>>,
+) -> Result<Found<Continuation>, ParseErr>
+    requires known { IsKnown operand.now }
+    requires small { operand.now.depth < 2 ^ 62 }
+    ensures gives { GivesTree (operated (boxed_shown operand.now.tree)) expr_depth
+        (operand.now.depth + 1) t.now operand.now.end result
+        (instance least (boxed_shown operand.now.tree) (drop operand.now.end t.now)) }
+    ensures deeper { IfOk result (λ x. operand.now.depth < x.depth) }
 {
-    if COMPARISON_LEVEL < least || expr_level(&*value.tree) < COMPARISON_LEVEL {
+    if COMPARISON_LEVEL < least || expr_level(&*operand.tree) < COMPARISON_LEVEL {
         return Err(ParseErr::NoTree);
     }
-    let word = take(alloc, t, value.end, Want::Key(INSTANCEOF))?;
-    let sort = type_use(alloc, t, word.end)?;
-    let of = put(alloc, sort.item)?;
+    let word = take(alloc, t, operand.end, Want::Key(INSTANCEOF))?;
+    let used_type = type_use(alloc, t, word.end)?;
+    let of = put(alloc, used_type.item)?;
     Ok(Found {
-        tree: Tail::Instance(word.item, of),
-        end: sort.end,
-        depth: value.depth + 1,
+        tree: Continuation::Instance(word.item, of),
+        end: used_type.end,
+        depth: operand.depth + 1,
     })
 }
 
@@ -100,7 +100,7 @@ fn operation(
     room: u32,
     least: usize,
     left: &Found<Box<Expr>>,
-) -> Result<Found<Tail>, ParseErr>
+) -> Result<Found<Continuation>, ParseErr>
     requires known { IsKnown left.now }
     requires shallow { left.now.depth ≤ room }
     ensures gives { GivesTree (operated (boxed_shown left.now.tree)) expr_depth (room + 1) t.now
@@ -109,14 +109,14 @@ fn operation(
     ensures deeper { IfOk result (λ x. left.now.depth < x.depth) }
 {
     let op = binary_op(alloc, t, left.end, least, &*left.tree)?;
-    let value = binary(alloc, t, op.end, room, right_level(&op.item))?;
+    let operand = binary(alloc, t, op.end, room, right_level(&op.item))?;
     Ok(Found {
-        tree: Tail::Binary(Operation {
+        tree: Continuation::Binary(Operation {
             op: op.item,
-            value: value.tree,
+            operand: operand.tree,
         }),
-        end: value.end,
-        depth: deeper(left.depth, value.depth) + 1,
+        end: operand.end,
+        depth: deeper(left.depth, operand.depth) + 1,
     })
 }
 
@@ -129,7 +129,7 @@ fn operator(
     room: u32,
     least: usize,
     left: &Found<Box<Expr>>,
-) -> Result<Found<Tail>, ParseErr>
+) -> Result<Found<Continuation>, ParseErr>
     requires { IsKnown left.now }
     ensures gives { GivesTree (operated (boxed_shown left.now.tree)) expr_depth (room + 1) t.now
         left.now.end result (operator room (parsers room) least (boxed_shown left.now.tree)
@@ -161,8 +161,14 @@ pub(crate) fn binary(
         return Err(ParseErr::NoTree);
     }
     let mut left = unary(alloc, t, at, room)?;
-    'operators: while let Some(tail) = attempt(operator(alloc, t, room - 1, least, &left))? {
-        left = operated(alloc, left, tail)?;
+    'operators: while let Some(continuation) = attempt(operator(
+        alloc,
+        t,
+        room - 1,
+        least,
+        &left,
+    ))? {
+        left = operated(alloc, left, continuation)?;
     }
     Ok(left)
 }

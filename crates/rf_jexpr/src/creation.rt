@@ -69,12 +69,12 @@ fn new_filled(
     ensures { GivesTree boxed_shown expr_depth (room + 1) t.now at result
         (new_filled (parsers room) word (base_shown base) (drop at t.now)) }
 {
-    let ends = dims(alloc, t, at)?;
-    if ends.item.list.is_empty() {
+    let bracket_pairs = dims(alloc, t, at)?;
+    if bracket_pairs.item.list.is_empty() {
         return Err(ParseErr::NoTree);
     }
-    let items = braces(alloc, t, ends.end, room)?;
-    let tree = filled_of(alloc, word, base, ends.item, items.tree)?;
+    let items = braces(alloc, t, bracket_pairs.end, room)?;
+    let tree = filled_of(alloc, word, base, bracket_pairs.item, items.tree)?;
     Ok(Found {
         tree,
         end: items.end,
@@ -96,17 +96,17 @@ fn new_sized(
     requires within { sizes.end ≤ length t.now }
     ensures { IfOk result (IsFound boxed_shown expr_depth (sizes.depth + 1) t.now sizes.end
         (and_then (dims (drop sizes.end t.now))
-        (λ ends. Some (
+        (λ bracket_pairs. Some (
           NewArray word (base_shown base) (sizes_tree (map size_shown sizes.tree))
-              ends.0,
-          ends.1,
+              bracket_pairs.0,
+          bracket_pairs.1,
         )))) }
 {
-    let ends = dims(alloc, t, sizes.end)?;
-    let tree = array_of(alloc, word, base, sizes.tree, ends.item)?;
+    let bracket_pairs = dims(alloc, t, sizes.end)?;
+    let tree = array_of(alloc, word, base, sizes.tree, bracket_pairs.item)?;
     Ok(Found {
         tree,
-        end: ends.end,
+        end: bracket_pairs.end,
         depth: sizes.depth + 1,
     })
 }

@@ -2,6 +2,7 @@
 #![tactic(auto)]
 
 mod binary;
+mod continuations;
 mod creation;
 mod cursor;
 mod found;
@@ -12,7 +13,6 @@ mod parse_err;
 mod parts;
 mod primary;
 mod shapes;
-mod tails;
 mod top;
 mod unary;
 

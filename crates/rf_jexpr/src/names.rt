@@ -118,13 +118,13 @@ pub(crate) fn type_use(alloc: Global, t: &[Tok], at: usize) -> Result<Taken<Type
     ensures { Gives type_shown t.now at result (type_use (drop at t.now)) }
 {
     let base = type_base(alloc, t, at)?;
-    let ends = dims(alloc, t, base.end)?;
-    let sort = TypeUse {
+    let bracket_pairs = dims(alloc, t, base.end)?;
+    let used_type = TypeUse {
         base: base.item,
-        dims: ends.item,
+        dims: bracket_pairs.item,
     };
     Ok(Taken {
-        item: sort,
-        end: ends.end,
+        item: used_type,
+        end: bracket_pairs.end,
     })
 }

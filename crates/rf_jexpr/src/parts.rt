@@ -37,13 +37,13 @@ pub(crate) fn paren(
         (paren (parsers room) (drop at t.now)) }
 {
     let left = take(alloc, t, at, Want::Op(LEFT_PAREN))?;
-    let value = expr(alloc, t, left.end, room)?;
-    let right = take(alloc, t, value.end, Want::Op(RIGHT_PAREN))?;
-    let tree = paren_of(alloc, left.item, value.tree, right.item)?;
+    let operand = expr(alloc, t, left.end, room)?;
+    let right = take(alloc, t, operand.end, Want::Op(RIGHT_PAREN))?;
+    let tree = paren_of(alloc, left.item, operand.tree, right.item)?;
     Ok(Found {
         tree,
         end: right.end,
-        depth: value.depth + 1,
+        depth: operand.depth + 1,
     })
 }
 
@@ -56,11 +56,11 @@ fn next_expr(alloc: Global, t: &[Tok], at: usize, room: u32) -> Result<Found<(To
     ensures forth { IfOk result (λ x. at < x.end) }
 {
     let comma = take(alloc, t, at, Want::Op(COMMA))?;
-    let value = expr(alloc, t, comma.end, room)?;
+    let operand = expr(alloc, t, comma.end, room)?;
     Ok(Found {
-        tree: (comma.item, Box::into_inner(value.tree)),
-        end: value.end,
-        depth: value.depth,
+        tree: (comma.item, Box::into_inner(operand.tree)),
+        end: operand.end,
+        depth: operand.depth,
     })
 }
 
@@ -168,12 +168,12 @@ pub(crate) fn bracketed(
     ensures forth { IfOk result (λ x. at < x.end) }
 {
     let left = take(alloc, t, at, Want::Op(LEFT_BRACKET))?;
-    let value = expr(alloc, t, left.end, room)?;
-    let right = take(alloc, t, value.end, Want::Op(RIGHT_BRACKET))?;
+    let operand = expr(alloc, t, left.end, room)?;
+    let right = take(alloc, t, operand.end, Want::Op(RIGHT_BRACKET))?;
     Ok(Found {
-        tree: (left.item, value.tree, right.item),
+        tree: (left.item, operand.tree, right.item),
         end: right.end,
-        depth: value.depth,
+        depth: operand.depth,
     })
 }
 
@@ -190,9 +190,9 @@ fn sized(
     ensures forth { IfOk result (λ x. at < x.end) }
 {
     let found = bracketed(alloc, t, at, room)?;
-    let (left, value, right) = found.tree;
+    let (left, operand, right) = found.tree;
     Ok(Found {
-        tree: (left, Box::into_inner(value), right),
+        tree: (left, Box::into_inner(operand), right),
         end: found.end,
         depth: found.depth,
     })
@@ -230,11 +230,11 @@ fn next_init(alloc: Global, t: &[Tok], at: usize, room: u32) -> Result<Found<(To
     ensures forth { IfOk result (λ x. at < x.end) }
 {
     let comma = take(alloc, t, at, Want::Op(COMMA))?;
-    let value = init(alloc, t, comma.end, room)?;
+    let operand = init(alloc, t, comma.end, room)?;
     Ok(Found {
-        tree: (comma.item, Box::into_inner(value.tree)),
-        end: value.end,
-        depth: value.depth,
+        tree: (comma.item, Box::into_inner(operand.tree)),
+        end: operand.end,
+        depth: operand.depth,
     })
 }
 

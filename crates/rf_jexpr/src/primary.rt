@@ -8,18 +8,18 @@ ghost use Rattle.rf_jexpr.specs.Made.{IsKnown, super_args_found_depth};
 ghost use Rattle.rf_jexpr.specs.PartReads.{args};
 ghost use Rattle.rf_jexpr.specs.PrimaryReads.{literal, this_word, super_member, named_call, named, first_part, member, field, item, suffix, primary};
 ghost use Rattle.rf_jexpr.specs.Reads.{optional};
-ghost use Rattle.rf_jmake.specs.Tails.{named_called, suffixed};
+ghost use Rattle.rf_jmake.specs.Continuations.{named_called, suffixed};
 
 use crate::ParseErr;
+use crate::continuations::suffixed;
 use crate::creation::creation;
 use crate::cursor::{Want, is_at, take};
 use crate::found::{Found, Taken, attempt, deeper};
 use crate::names::name;
 use crate::parts::{args, bracketed, paren};
 use crate::shapes::{takes_field, takes_index};
-use crate::tails::suffixed;
+use rf_jmake::continuations::{Suffix, depth_called_on, named_called};
 use rf_jmake::exprs::{literal_of, name_of, super_of, this_of};
-use rf_jmake::tails::{Suffix, depth_called_on, named_called};
 use rf_jtree::keyword_names::{NEW, SUPER, THIS};
 use rf_jtree::operator_names::{DOT, LEFT_PAREN};
 use rf_jtree::{Args, Expr, Name, Tok};
@@ -130,7 +130,7 @@ fn named(alloc: Global, t: &[Tok], at: usize, room: u32) -> Result<Found<Box<Exp
         (named room (parsers room) (drop at t.now)) }
 {
     let name = name(alloc, t, at)?;
-    let Some(tail) = attempt(named_call(alloc, t, name.end, room, &name.item))? else {
+    let Some(continuation) = attempt(named_call(alloc, t, name.end, room, &name.item))? else {
         let tree = name_of(alloc, name.item)?;
         return Ok(Found {
             tree,
@@ -138,11 +138,11 @@ fn named(alloc: Global, t: &[Tok], at: usize, room: u32) -> Result<Found<Box<Exp
             depth: 1,
         });
     };
-    let tree = named_called(alloc, name.item, tail.tree)?;
+    let tree = named_called(alloc, name.item, continuation.tree)?;
     Ok(Found {
         tree,
-        end: tail.end,
-        depth: tail.depth,
+        end: continuation.end,
+        depth: continuation.depth,
     })
 }
 
@@ -243,9 +243,9 @@ fn item(
         return Err(ParseErr::NoTree);
     }
     let index = bracketed(alloc, t, on.end, room)?;
-    let (left, value, right) = index.tree;
+    let (left, operand, right) = index.tree;
     Ok(Found {
-        tree: Suffix::Item(left, value, right),
+        tree: Suffix::Item(left, operand, right),
         end: index.end,
         depth: deeper(on.depth, index.depth) + 1,
     })
@@ -288,8 +288,8 @@ pub(crate) fn primary(
         (primary room (parsers room) (drop at t.now)) }
 {
     let mut found = first_part(alloc, t, at, room)?;
-    'suffixes: while let Some(tail) = attempt(suffix(alloc, t, room, &found))? {
-        found = suffixed(alloc, found, tail)?;
+    'suffixes: while let Some(continuation) = attempt(suffix(alloc, t, room, &found))? {
+        found = suffixed(alloc, found, continuation)?;
     }
     Ok(found)
 }

@@ -4,7 +4,7 @@ ghost use Rattle.rf_jexpr.specs.Descent.{parsers, choice, assignment};
 ghost use Rattle.rf_jexpr.specs.Gives.{GivesTree, GivesExpr};
 ghost use Rattle.rf_jmake.specs.ExprMade.{boxed_shown, boxed_init_shown};
 ghost use Rattle.rf_jexpr.specs.Made.{IsKnown};
-ghost use Rattle.rf_jmake.specs.Tails.{assigned, chosen};
+ghost use Rattle.rf_jmake.specs.Continuations.{assigned, chosen};
 
 use crate::ParseErr;
 use crate::binary::binary;
@@ -12,8 +12,8 @@ use crate::cursor::{Want, is_at, take};
 use crate::found::{Found, attempt, deeper};
 use crate::parts::braces;
 use crate::shapes::is_assignable;
-use rf_jmake::exprs::{braced_of, value_of};
-use rf_jmake::tails::{Choice, Operation, assigned, chosen};
+use rf_jmake::continuations::{Choice, Operation, assigned, chosen};
+use rf_jmake::exprs::{braced_of, initializer_of};
 use rf_jtree::levels::OR_OR_LEVEL;
 use rf_jtree::operator_names::{COLON, LEFT_BRACE, QUESTION};
 use rf_jtree::{Expr, Init, Tok};
@@ -67,14 +67,14 @@ pub(crate) fn conditional(
         return Err(ParseErr::NoTree);
     }
     let test = binary(alloc, t, at, room, OR_OR_LEVEL)?;
-    let Some(tail) = attempt(choice(alloc, t, room - 1, &test))? else {
+    let Some(continuation) = attempt(choice(alloc, t, room - 1, &test))? else {
         return Ok(test);
     };
-    let tree = chosen(alloc, test.tree, tail.tree)?;
+    let tree = chosen(alloc, test.tree, continuation.tree)?;
     Ok(Found {
         tree,
-        end: tail.end,
-        depth: tail.depth,
+        end: continuation.end,
+        depth: continuation.depth,
     })
 }
 
@@ -96,14 +96,14 @@ fn assignment(
         return Err(ParseErr::NoTree);
     }
     let op = take(alloc, t, left.end, Want::Assignment)?;
-    let value = expr(alloc, t, op.end, room)?;
+    let operand = expr(alloc, t, op.end, room)?;
     Ok(Found {
         tree: Operation {
             op: op.item,
-            value: value.tree,
+            operand: operand.tree,
         },
-        end: value.end,
-        depth: deeper(left.depth, value.depth) + 1,
+        end: operand.end,
+        depth: deeper(left.depth, operand.depth) + 1,
     })
 }
 
@@ -122,14 +122,14 @@ pub(crate) fn expr(
         return Err(ParseErr::NoTree);
     }
     let left = conditional(alloc, t, at, room)?;
-    let Some(tail) = attempt(assignment(alloc, t, room - 1, &left))? else {
+    let Some(continuation) = attempt(assignment(alloc, t, room - 1, &left))? else {
         return Ok(left);
     };
-    let tree = assigned(alloc, left.tree, tail.tree)?;
+    let tree = assigned(alloc, left.tree, continuation.tree)?;
     Ok(Found {
         tree,
-        end: tail.end,
-        depth: tail.depth,
+        end: continuation.end,
+        depth: continuation.depth,
     })
 }
 
@@ -157,12 +157,12 @@ pub(crate) fn init(
             depth: items.depth + 1,
         });
     }
-    let value = expr(alloc, t, at, room)?;
-    let tree = value_of(alloc, value.tree)?;
+    let operand = expr(alloc, t, at, room)?;
+    let tree = initializer_of(alloc, operand.tree)?;
     Ok(Found {
         tree,
-        end: value.end,
-        depth: value.depth,
+        end: operand.end,
+        depth: operand.depth,
     })
 }
 

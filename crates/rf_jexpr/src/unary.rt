@@ -25,32 +25,32 @@ fn step(
     alloc: Global,
     t: &[Tok],
     room: u32,
-    value: &Found<Box<Expr>>,
+    operand: &Found<Box<Expr>>,
 ) -> Result<Taken<Tok>, ParseErr>
-    requires { IsKnown value.now }
-    ensures gives { Gives (Postfix (boxed_shown value.now.tree)) t.now value.now.end result
-        (step room (boxed_shown value.now.tree) (drop value.now.end t.now)) }
-    ensures shallow { IfOk result (λ x. value.now.depth ≤ room) }
+    requires { IsKnown operand.now }
+    ensures gives { Gives (Postfix (boxed_shown operand.now.tree)) t.now operand.now.end result
+        (step room (boxed_shown operand.now.tree) (drop operand.now.end t.now)) }
+    ensures shallow { IfOk result (λ x. operand.now.depth ≤ room) }
 {
-    if (room as usize) < value.depth {
+    if (room as usize) < operand.depth {
         return Err(ParseErr::NoTree);
     }
-    take(alloc, t, value.end, Want::Suffix)
+    take(alloc, t, operand.end, Want::Suffix)
 }
 
 fn stepped(
     alloc: Global,
-    value: Found<Box<Expr>>,
+    operand: Found<Box<Expr>>,
     op: Taken<Tok>,
 ) -> Result<Found<Box<Expr>>, Memory>
-    requires { value.depth < 2 ^ 62 }
-    ensures { IfOk result (IsStepped value op) }
+    requires { operand.depth < 2 ^ 62 }
+    ensures { IfOk result (IsStepped operand op) }
 {
-    let tree = postfix_of(alloc, value.tree, op.item)?;
+    let tree = postfix_of(alloc, operand.tree, op.item)?;
     Ok(Found {
         tree,
         end: op.end,
-        depth: value.depth + 1,
+        depth: operand.depth + 1,
     })
 }
 
@@ -68,11 +68,11 @@ fn steps(
     ensures { IfOk result (IsFound boxed_shown expr_depth (room + 1) t.now first.end
         (chain (step room) (room + 1) (boxed_shown first.tree) (drop first.end t.now))) }
 {
-    let mut value = first;
-    'steps: while let Some(op) = attempt(step(alloc, t, room, &value))? {
-        value = stepped(alloc, value, op)?;
+    let mut operand = first;
+    'steps: while let Some(op) = attempt(step(alloc, t, room, &operand))? {
+        operand = stepped(alloc, operand, op)?;
     }
-    Ok(value)
+    Ok(operand)
 }
 
 /// A primary expression, with `++` and `--` behind it or without (JLS 15.14).
@@ -82,8 +82,8 @@ fn postfix(alloc: Global, t: &[Tok], at: usize, room: u32) -> Result<Found<Box<E
     ensures { GivesTree boxed_shown expr_depth (room + 1) t.now at result
         (postfix room (parsers room) (drop at t.now)) }
 {
-    let value = primary(alloc, t, at, room)?;
-    let found = steps(alloc, t, room, value)?;
+    let operand = primary(alloc, t, at, room)?;
+    let found = steps(alloc, t, room, operand)?;
     Ok(found)
 }
 
@@ -95,32 +95,32 @@ fn prefixed(alloc: Global, t: &[Tok], at: usize, room: u32) -> Result<Found<Box<
         (prefixed (parsers room) (drop at t.now)) }
 {
     let op = take(alloc, t, at, Want::Prefix)?;
-    let value = unary(alloc, t, op.end, room)?;
-    let tree = prefixed_of(alloc, op.item, value.tree)?;
+    let operand = unary(alloc, t, op.end, room)?;
+    let tree = prefixed_of(alloc, op.item, operand.tree)?;
     Ok(Found {
         tree,
-        end: value.end,
-        depth: value.depth + 1,
+        end: operand.end,
+        depth: operand.depth + 1,
     })
 }
 
 /// Whether it is a primitive type without brackets.
 #[tactic(auto, unfolding(crate::specs::Descent::is_primitive))]
-fn is_primitive(sort: &TypeUse) -> bool
-    ensures { result ≡ is_primitive (type_shown sort.now) }
+fn is_primitive(used_type: &TypeUse) -> bool
+    ensures { result ≡ is_primitive (type_shown used_type.now) }
 {
-    match sort.base {
-        TypeBase::Prim(_) => sort.dims.list.is_empty(),
+    match used_type.base {
+        TypeBase::Prim(_) => used_type.dims.list.is_empty(),
         TypeBase::Named(_) => false,
     }
 }
 
 /// Whether this type in parentheses is a cast of what stands there (JLS 15.16).
 #[tactic(auto, using(crate::proofs::CursorLemmas::places), unfolding(crate::specs::Descent::casts))]
-fn casts(t: &[Tok], at: usize, sort: &TypeUse) -> bool
-    ensures { result ≡ casts (type_shown sort.now) (drop at t.now) }
+fn casts(t: &[Tok], at: usize, used_type: &TypeUse) -> bool
+    ensures { result ≡ casts (type_shown used_type.now) (drop at t.now) }
 {
-    if is_primitive(sort) {
+    if is_primitive(used_type) {
         return true;
     }
     match tok_at(t, at) {
@@ -137,17 +137,17 @@ fn cast(alloc: Global, t: &[Tok], at: usize, room: u32) -> Result<Found<Box<Expr
         (cast (parsers room) (drop at t.now)) }
 {
     let left = take(alloc, t, at, Want::Op(LEFT_PAREN))?;
-    let sort = type_use(alloc, t, left.end)?;
-    let right = take(alloc, t, sort.end, Want::Op(RIGHT_PAREN))?;
-    if !casts(t, right.end, &sort.item) {
+    let used_type = type_use(alloc, t, left.end)?;
+    let right = take(alloc, t, used_type.end, Want::Op(RIGHT_PAREN))?;
+    if !casts(t, right.end, &used_type.item) {
         return Err(ParseErr::NoTree);
     }
-    let value = unary(alloc, t, right.end, room)?;
-    let tree = cast_of(alloc, left.item, sort.item, right.item, value.tree)?;
+    let operand = unary(alloc, t, right.end, room)?;
+    let tree = cast_of(alloc, left.item, used_type.item, right.item, operand.tree)?;
     Ok(Found {
         tree,
-        end: value.end,
-        depth: value.depth + 1,
+        end: operand.end,
+        depth: operand.depth + 1,
     })
 }
 

@@ -16,28 +16,28 @@ more begins others = record { rest = begins.rest ++ others; parts = ap (λ toks.
 
 mutual
   pub expr_begins : (expr : ExprTree) → Begins (expr_first expr) (expr_yield expr)
-  expr_begins (Assign left op value) = more (expr_begins left) (op ∷ expr_yield value)
+  expr_begins (Assign left op operand) = more (expr_begins left) (op ∷ expr_yield operand)
   expr_begins (Cond test mark first colon other) = more (expr_begins test) (mark ∷ (expr_yield first ++ colon ∷ expr_yield other))
   expr_begins (Binary left op right) = more (expr_begins left) (op ∷ expr_yield right)
-  expr_begins (Instance value word sort) = more (expr_begins value) _
-  expr_begins (Unary op value) = record { rest = expr_yield value; parts = refl }
-  expr_begins (Cast left sort right value) = record { rest = _; parts = refl }
-  expr_begins (Postfix value op) = more (expr_begins value) (op ∷ [])
+  expr_begins (Instance operand word used_type) = more (expr_begins operand) _
+  expr_begins (Unary op operand) = record { rest = expr_yield operand; parts = refl }
+  expr_begins (Cast left used_type right operand) = record { rest = _; parts = refl }
+  expr_begins (Postfix operand op) = more (expr_begins operand) (op ∷ [])
   expr_begins (Lit tok) = record { rest = []; parts = refl }
   expr_begins (This tok) = record { rest = []; parts = refl }
-  expr_begins (Paren left value right) = record { rest = _; parts = refl }
+  expr_begins (Paren left operand right) = record { rest = _; parts = refl }
   expr_begins (Name name) = record { rest = _; parts = refl }
   expr_begins (Call on id args) = on_begins on id (args_yield args)
-  expr_begins (Field value dot id) = more (expr_begins value) (dot ∷ id ∷ [])
+  expr_begins (Field operand dot id) = more (expr_begins operand) (dot ∷ id ∷ [])
   expr_begins (Super word dot id args) = record { rest = _; parts = refl }
   expr_begins (New word name args) = record { rest = _; parts = refl }
-  expr_begins (Index value left index right) = more (expr_begins value) (left ∷ (expr_yield index ++ right ∷ []))
+  expr_begins (Index operand left index right) = more (expr_begins operand) (left ∷ (expr_yield index ++ right ∷ []))
   expr_begins (NewArray word base sizes dims) = record { rest = _; parts = refl }
   expr_begins (NewInit word base dims init) = record { rest = _; parts = refl }
 
   on_begins : (on : OnTree) (id : Tok) (others : List Tok) → Begins (on_first on id) (on_yield on ++ id ∷ others)
   on_begins NoOn id others = record { rest = others; parts = refl }
-  on_begins (On value dot) id others = more (more (expr_begins value) (dot ∷ [])) (id ∷ others)
+  on_begins (On operand dot) id others = more (more (expr_begins operand) (dot ∷ [])) (id ∷ others)
 
 -- so the operand of a cast begins with that token
 pub BeginsOperand_yield : (expr : ExprTree) → IsTrue (begins_operand (expr_first expr)) ↔ BeginsOperand (expr_yield expr)

@@ -17,7 +17,7 @@ pub fn is_no_local(stmt: &Stmt) -> bool
         Stmt::Block(_)
         | Stmt::Empty(_)
         | Stmt::Label(_, _, _)
-        | Stmt::Value(_, _)
+        | Stmt::Expression(_, _)
         | Stmt::If { .. }
         | Stmt::While { .. }
         | Stmt::Do { .. }
@@ -97,7 +97,7 @@ pub fn ends_open(stmt: &Stmt) -> bool
         Stmt::Block(_)
         | Stmt::Empty(_)
         | Stmt::Local(_, _)
-        | Stmt::Value(_, _)
+        | Stmt::Expression(_, _)
         | Stmt::Do { .. }
         | Stmt::Switch { .. }
         | Stmt::Jump(_, _, _)

@@ -1,4 +1,4 @@
--- The escapes of a comment, place by place.
+-- The escapes of a comment, offset by offset.
 use Rattle.std.proofs.Common.{◌≡◌, ℕ, ◌+◌, ◌%◌, ◌<◌, Bool, true, false, cond, not, ◌&&◌, ◌==◌, List, [], ◌∷◌, ◌++◌, length, get_or, take, drop, Option, Some, None, is_some, Decides, refl, ap, sym, ◌∙◌, subst, arith, length-append}
 use Rattle.std.proofs.Math.Bool.{and-false}
 use Rattle.std.proofs.Math.Nat.{add-mod-mod}
@@ -9,7 +9,7 @@ use Rattle.rf_jtree.specs.Escapes.{IsUnicodeEscape}
 use Rattle.rf_jlex.specs.Comments.{AllowsEscape}
 use Rattle.rf_jlex.specs.EscapeFronts.{GivesOnlyFront}
 
--- what `EscapesAreAllowed` asks of one place
+-- what `EscapesAreAllowed` asks of one offset
 abbrev pub EscapeMayStandAt : List ℕ → ℕ → Type 0
 EscapeMayStandAt comment at = trailing_backslashes (take at comment) % 2 ≡ 0 → AllowsEscape (drop at comment)
 
@@ -36,7 +36,7 @@ pub parity_more : (comment : List ℕ) (at : ℕ) (is_escaped : Bool) → at < l
 parity_more comment at is_escaped within is =
     ap (λ text. trailing_backslashes text % 2) (take_more comment at 0 within) ∙ ap (λ n. n % 2) (trailing-push (take at comment) (get_or comment at 0)) ∙ parity-push (get_or comment at 0 == 92) is_escaped (trailing_backslashes (take at comment)) is
 
--- the escapes are allowed where each place may stand
+-- the escapes are allowed where each offset may stand
 pub allowed_everywhere : (comment : List ℕ) → ((at : ℕ) → at < length comment → EscapeMayStandAt comment at) → EscapesAreAllowed comment
 allowed_everywhere comment each front rest parts even =
     let tail : List ℕ = 92 ∷ 117 ∷ rest in
@@ -61,7 +61,7 @@ begins_nowhere_else byte is_escaped begins other is =
     let differs : (byte == 92) ≡ false = ne_eqb byte 92 other in
     rw differs (is ∙ differs)
 
--- a place may stand where no escape begins, or the escape is allowed
+-- an offset may stand where no escape begins, or the escape is allowed
 pub may_stand : (comment : List ℕ) (at : ℕ) (is_escaped begins : Bool) → at < length comment → trailing_backslashes (take at comment) % 2 ≡ cond is_escaped 1 0 → begins ≡ (get_or comment at 0 == 92) && not is_escaped → (begins ≡ true → AllowsEscape (drop at comment)) → EscapeMayStandAt comment at
 may_stand comment at true begins within odd is allows even rest parts = absurd (one_is_not_zero (trailing_backslashes (take at comment) % 2) odd even)
 may_stand comment at false begins within none is allows even rest parts =

@@ -16,7 +16,7 @@ pub fn bytes_come_back(bytes: &[u8])
     ensures { (toks : Toks) → AreTokens bytes.now toks → toks_bytes toks ≡ bytes.now }
 {}
 
-/// Two faults of the same bytes are at the same place.
+/// Two faults of the same bytes are at the same offset.
 pub fn faults_are_unique(bytes: &[u8])
     ensures { (one other : ℕ) → IsFault bytes.now one → IsFault bytes.now other → one ≡ other }
 {}

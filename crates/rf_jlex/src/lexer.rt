@@ -62,7 +62,7 @@ fn white_length(text: &[u8]) -> usize
     text.iter().take_while(|byte| is_white(**byte)).count()
 }
 
-/// The place behind the white space that stands at this place.
+/// The offset behind the white space that stands at this offset.
 fn behind_white(text: &[u8], at: usize) -> usize
     requires { at ≤ length text.now }
     ensures within { result ≤ length text.now }

@@ -1,4 +1,4 @@
-//! The lexer: bytes to tokens, each the longest match at its place.
+//! The lexer: bytes to tokens, each the longest match at its offset.
 #![tactic(auto)]
 
 mod classes;

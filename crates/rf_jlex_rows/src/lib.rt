@@ -2,4 +2,6 @@
 #![tactic(auto)]
 
 #[cfg(test)]
+mod leads;
+#[cfg(test)]
 mod texts;

@@ -1,12 +1,12 @@
 //! Texts, token by token, as the Java specification has them: each form beside its nearest neighbour.
 
 use rf_jlex::{LexErr, lex};
-use rf_jtree::{Tok, TokKind, Toks};
+use rf_jtree::{Tok, TokKind};
 use std::alloc::Global;
 use std::test::Fail;
 
-/// A text, and its tokens as `sort text`, with `|` between two of them, or `@` and the place of the fault.
-type Case = (&'static [u8], &'static [u8]);
+/// A text, and its tokens as `sort text`, with `|` between two of them, or `@` and the offset of the fault.
+pub(crate) type Case = (&'static [u8], &'static [u8]);
 
 /// Integers and their nearest neighbours (JLS 3.10.1).
 const INTEGERS: &[Case] = &[
@@ -222,7 +222,7 @@ fn sort_of(kind: TokKind) -> &'static [u8] {
 }
 
 /// What stands behind the front of a text, or nothing where it has another one.
-fn behind<'a>(text: &'a [u8], front: &[u8]) -> Option<&'a [u8]> {
+pub(crate) fn behind<'a>(text: &'a [u8], front: &[u8]) -> Option<&'a [u8]> {
     if text.len() < front.len() {
         return None;
     }
@@ -253,8 +253,8 @@ fn are_toks(toks: &[Tok], want: &[u8]) -> bool {
     left.is_empty()
 }
 
-/// Whether the place is written so, behind `@`.
-fn is_place(place: usize, want: &[u8]) -> bool {
+/// Whether the offset is written so, behind `@`.
+fn is_offset(offset: usize, want: &[u8]) -> bool {
     let Some(digits) = behind(want, b"@") else {
         return false;
     };
@@ -262,14 +262,14 @@ fn is_place(place: usize, want: &[u8]) -> bool {
     for digit in digits {
         number = number.wrapping_mul(10).wrapping_add((*digit & 15) as usize);
     }
-    !digits.is_empty() && number == place
+    !digits.is_empty() && number == offset
 }
 
 /// Whether the lexer says this of a text, written as in the tables.
 fn says(alloc: Global, text: &[u8], want: &[u8]) -> bool {
     match lex(alloc, text) {
         Ok(toks) => are_toks(toks.list.as_slice(), want),
-        Err(LexErr::Fault { offset }) => is_place(offset, want),
+        Err(LexErr::Fault { offset }) => is_offset(offset, want),
         Err(LexErr::Memory) => false,
     }
 }
@@ -325,46 +325,5 @@ fn words_are_keywords_literals_or_identifiers(rt: HostRuntime) -> Result<(), Fai
 #[test]
 fn operators_are_as_long_as_they_can_be(rt: HostRuntime) -> Result<(), Fail> {
     assert_eq!(rt; first_other(rt.alloc(), OPERATORS), OPERATORS.len());
-    Ok(())
-}
-
-/// Texts, and the leads, texts and tails of their tokens, with `|` before each text and before the tail.
-const LEADS: &[Case] = &[
-    (b" a /*b*/c//d\n", b" |a /*b*/|c|//d\n"),
-    (b"a", b"|a|"),
-    (b" // x", b"| // x"),
-    (b"", b"|"),
-];
-
-/// What stands behind the lead and the text of a token.
-fn behind_parts<'a>(text: &'a [u8], tok: &Tok) -> Option<&'a [u8]> {
-    let text = behind(text, tok.lead.as_slice())?;
-    behind(behind(text, b"|")?, tok.text.as_slice())
-}
-
-/// Whether these are the parts of the tokens and of the tail.
-fn are_parts(toks: &Toks, want: &[u8]) -> bool {
-    let mut left = want;
-    for tok in toks.list.as_slice() {
-        match behind_parts(left, tok) {
-            Some(rest) => left = rest,
-            None => return false,
-        }
-    }
-    behind(left, b"|") == Some(toks.tail.as_slice())
-}
-
-fn has_parts(alloc: Global, text: &[u8], want: &[u8]) -> bool {
-    match lex(alloc, text) {
-        Ok(toks) => are_parts(&toks, want),
-        Err(_) => false,
-    }
-}
-
-#[test]
-fn a_lead_stands_before_its_token(rt: HostRuntime) -> Result<(), Fail> {
-    for (text, want) in LEADS {
-        assert!(rt; has_parts(rt.alloc(), text, want));
-    }
     Ok(())
 }

@@ -1,4 +1,4 @@
 pub mod Called
 pub mod ExprMade
 pub mod StmtMade
-pub mod Tails
+pub mod Continuations

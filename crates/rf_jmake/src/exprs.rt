@@ -61,42 +61,47 @@ pub fn name_of(alloc: Global, name: Name) -> Result<Box<Expr>, Memory>
 }
 
 /// An expression in parentheses (JLS 15.8.5).
-pub fn paren_of(alloc: Global, left: Tok, value: Box<Expr>, right: Tok) -> Result<Box<Expr>, Memory>
-    ensures { IfOk result (λ found. boxed_shown found ≡ trees.Paren left (boxed_shown value)
+pub fn paren_of(
+    alloc: Global,
+    left: Tok,
+    operand: Box<Expr>,
+    right: Tok,
+) -> Result<Box<Expr>, Memory>
+    ensures { IfOk result (λ found. boxed_shown found ≡ trees.Paren left (boxed_shown operand)
         right) }
 {
     let end = put(alloc, right)?;
-    boxed(alloc, Expr::Paren(left, value, end))
+    boxed(alloc, Expr::Paren(left, operand, end))
 }
 
 /// A prefix operator and its operand (JLS 15.15).
-pub fn prefixed_of(alloc: Global, op: Tok, value: Box<Expr>) -> Result<Box<Expr>, Memory>
-    ensures { IfOk result (λ found. boxed_shown found ≡ trees.Unary op (boxed_shown value)) }
+pub fn prefixed_of(alloc: Global, op: Tok, operand: Box<Expr>) -> Result<Box<Expr>, Memory>
+    ensures { IfOk result (λ found. boxed_shown found ≡ trees.Unary op (boxed_shown operand)) }
 {
-    boxed(alloc, Expr::Unary(op, value))
+    boxed(alloc, Expr::Unary(op, operand))
 }
 
 /// A cast (JLS 15.16).
 pub fn cast_of(
     alloc: Global,
     left: Tok,
-    sort: TypeUse,
+    used_type: TypeUse,
     right: Tok,
-    value: Box<Expr>,
+    operand: Box<Expr>,
 ) -> Result<Box<Expr>, Memory>
-    ensures { IfOk result (λ found. boxed_shown found ≡ trees.Cast left (type_shown sort) right
-        (boxed_shown value)) }
+    ensures { IfOk result (λ found. boxed_shown found ≡ trees.Cast left (type_shown used_type) right
+        (boxed_shown operand)) }
 {
-    let to = put(alloc, sort)?;
+    let to = put(alloc, used_type)?;
     let end = put(alloc, right)?;
-    boxed(alloc, Expr::Cast(left, to, end, value))
+    boxed(alloc, Expr::Cast(left, to, end, operand))
 }
 
 /// An operand and `++` or `--` behind it (JLS 15.14).
-pub fn postfix_of(alloc: Global, value: Box<Expr>, op: Tok) -> Result<Box<Expr>, Memory>
-    ensures { IfOk result (λ found. boxed_shown found ≡ trees.Postfix (boxed_shown value) op) }
+pub fn postfix_of(alloc: Global, operand: Box<Expr>, op: Tok) -> Result<Box<Expr>, Memory>
+    ensures { IfOk result (λ found. boxed_shown found ≡ trees.Postfix (boxed_shown operand) op) }
 {
-    boxed(alloc, Expr::Postfix(value, op))
+    boxed(alloc, Expr::Postfix(operand, op))
 }
 
 /// `super.x` or `super.m(..)` (JLS 15.11.2, 15.12).
@@ -220,10 +225,11 @@ pub fn braces_of(
 }
 
 /// An expression that a variable or an item begins with (JLS 8.3, 10.6).
-pub fn value_of(alloc: Global, value: Box<Expr>) -> Result<Box<Init>, Memory>
-    ensures { IfOk result (λ found. boxed_init_shown found ≡ trees.Value (boxed_shown value)) }
+pub fn initializer_of(alloc: Global, operand: Box<Expr>) -> Result<Box<Init>, Memory>
+    ensures { IfOk result
+        (λ found. boxed_init_shown found ≡ trees.Expression (boxed_shown operand)) }
 {
-    boxed_init(alloc, Init::Value(value))
+    boxed_init(alloc, Init::Expression(operand))
 }
 
 /// Items in braces that a variable or an item begins with (JLS 10.6).

@@ -2,9 +2,9 @@
 #![tactic(auto)]
 
 mod boxes;
+pub mod continuations;
 pub mod exprs;
 pub mod simple_stmts;
 pub mod stmts;
-pub mod tails;
 
 pub use boxes::put;

@@ -20,10 +20,10 @@ pub fn empty_of(alloc: Global, semi: Tok) -> Result<Box<Stmt>, Memory>
 }
 
 /// An expression as a statement (JLS 14.8).
-pub fn value_of(alloc: Global, value: Box<Expr>, semi: Tok) -> Result<Box<Stmt>, Memory>
-    ensures { MakesStmt result (trees.Value (boxed_shown value) semi) }
+pub fn expression_of(alloc: Global, expression: Box<Expr>, semi: Tok) -> Result<Box<Stmt>, Memory>
+    ensures { MakesStmt result (trees.Expression (boxed_shown expression) semi) }
 {
-    boxed(alloc, Stmt::Value(value, semi))
+    boxed(alloc, Stmt::Expression(expression, semi))
 }
 
 /// `break` or `continue` (JLS 14.15, 14.16).
@@ -37,19 +37,24 @@ pub fn jump_of(alloc: Global, word: Tok, label: Option<Tok>, semi: Tok) -> Resul
 pub fn return_of(
     alloc: Global,
     word: Tok,
-    value: Option<Box<Expr>>,
+    expression: Option<Box<Expr>>,
     semi: Tok,
 ) -> Result<Box<Stmt>, Memory>
-    ensures { MakesStmt result (trees.Return word (option_map boxed_shown value) semi) }
+    ensures { MakesStmt result (trees.Return word (option_map boxed_shown expression) semi) }
 {
-    boxed(alloc, Stmt::Return(word, value, semi))
+    boxed(alloc, Stmt::Return(word, expression, semi))
 }
 
 /// `throw` (JLS 14.18).
-pub fn throw_of(alloc: Global, word: Tok, value: Box<Expr>, semi: Tok) -> Result<Box<Stmt>, Memory>
-    ensures { MakesStmt result (trees.Throw word (boxed_shown value) semi) }
+pub fn throw_of(
+    alloc: Global,
+    word: Tok,
+    expression: Box<Expr>,
+    semi: Tok,
+) -> Result<Box<Stmt>, Memory>
+    ensures { MakesStmt result (trees.Throw word (boxed_shown expression) semi) }
 {
-    boxed(alloc, Stmt::Throw(word, value, semi))
+    boxed(alloc, Stmt::Throw(word, expression, semi))
 }
 
 /// `assert` (JLS 14.10).

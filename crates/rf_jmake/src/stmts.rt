@@ -108,13 +108,13 @@ pub fn each_of(alloc: Global, head: Box<EachHead>, body: Box<Stmt>) -> Result<Bo
 }
 
 /// A group of a `switch`.
-pub fn group_of(word: Tok, value: Option<Box<Expr>>, colon: Tok, body: List<Stmt>) -> Group
-    ensures { group_shown result ≡ trees.Group word (optional_expr_shown value) colon
+pub fn group_of(word: Tok, expression: Option<Box<Expr>>, colon: Tok, body: List<Stmt>) -> Group
+    ensures { group_shown result ≡ trees.Group word (optional_expr_shown expression) colon
         (stmts_shown body) }
 {
     Group {
         word,
-        value,
+        expression,
         colon,
         body,
     }

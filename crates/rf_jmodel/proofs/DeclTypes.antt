@@ -2,7 +2,7 @@
 use Rattle.std.proofs.Common.{refl, Bool, true, false, ◌&&◌, not, ℕ, ◌+◌, List, [], ◌∷◌, Option, Some, None}
 use Rattle.std.specs.List.{flat_map, list_any}
 use Rattle.rf_jtree.specs.declared.tokens.Tok.{Tok}
-use Rattle.rf_jtree.specs.DeclTrees.{ParamTree, ParamsTree, CtorCallTree, RetTree, Void, Value, BodyTree, Block, MemberTree, Init, Ctor, Method, Field, TypeDeclTree, ImportTree, UnitTree}
+use Rattle.rf_jtree.specs.DeclTrees.{ParamTree, ParamsTree, CtorCallTree, RetTree, Void, Typed, BodyTree, Block, MemberTree, Init, Ctor, Method, Field, TypeDeclTree, ImportTree, UnitTree}
 use Rattle.rf_jtree.specs.DeclTrees.{package_yield}
 use Rattle.rf_jtree.specs.NameTrees.{ManyTree, NameTree, name_yield, mods_yield, dims_yield, option_yield, tok_yield, pair_yield}
 use Rattle.rf_jtree.specs.StmtTrees.{VarTree, StmtsTree}
@@ -27,7 +27,7 @@ names_untyped names =
 
 -- methods and constructors
 param_untyped : (back : ℕ) (param : ParamTree) → HasNoType (param_marks back param)
-param_untyped back param = both (each (mods_yield param.mods)) (both (type_untyped param.sort) (one refl (each (dims_yield param.dims))))
+param_untyped back param = both (each (mods_yield param.mods)) (both (type_untyped param.used_type) (one refl (each (dims_yield param.dims))))
 
 more_params_untyped : (back : ℕ) (rest : List (Tok × ParamTree)) → HasNoType (more_params_marks back rest)
 more_params_untyped back [] = none
@@ -53,7 +53,7 @@ ctor_body_untyped call body =
 
 ret_untyped : (ret : RetTree) → HasNoType (ret_marks ret)
 ret_untyped (Void word) = one refl none
-ret_untyped (Value sort) = type_untyped sort
+ret_untyped (Typed used_type) = type_untyped used_type
 
 body_untyped : (body : BodyTree) → HasNoType (body_marks body)
 body_untyped (Block block) = block_untyped o.Block block
@@ -75,7 +75,7 @@ member_untyped (Ctor mods id params throws left call body right) =
     both (each (mods_yield mods)) (one refl (callable_untyped params throws (ctor_body_untyped call body)))
 member_untyped (Method mods ret id params throws body) =
     both (each (mods_yield mods)) (both (ret_untyped ret) (one refl (callable_untyped params throws (body_untyped body))))
-member_untyped (Field mods sort vars semi) = both (each (mods_yield mods)) (both (type_untyped sort) (both (fields_untyped vars) (one refl none)))
+member_untyped (Field mods used_type vars semi) = both (each (mods_yield mods)) (both (type_untyped used_type) (both (fields_untyped vars) (one refl none)))
 
 members_untyped : (members : List MemberTree) → HasNoType (members_marks members)
 members_untyped [] = none

@@ -89,7 +89,7 @@ has-identifier [] k tok has is = absurd (no-tok tok has)
 has-identifier (first ∷ toks) zero tok has is =
     Contains-append_left (identifier_text first.kind first.text) (identifier_texts toks) tok.text
     (subst (λ (one : Tok). Contains (identifier_text one.kind one.text) tok.text) (sym (tok-is first tok has))
-    (subst (λ (sort : TokKind). Contains (identifier_text sort tok.text) tok.text) (sym is) (Contains-push [] tok.text)))
+    (subst (λ (used_type : TokKind). Contains (identifier_text used_type tok.text) tok.text) (sym is) (Contains-push [] tok.text)))
 has-identifier (first ∷ toks) (suc k) tok has is =
     Contains-append_right (identifier_text first.kind first.text) (identifier_texts toks) tok.text (has-identifier toks k tok has is)
 

@@ -82,8 +82,8 @@ pub base_untyped : (base : TypeBaseTree) → HasNoType (base_marks base)
 base_untyped (Prim tok) = one refl none
 base_untyped (Named name) = tname_untyped name
 
-pub type_untyped : (sort : TypeUseTree) → HasNoType (type_marks sort)
-type_untyped sort = both (base_untyped sort.base) (each (dims_yield sort.dims))
+pub type_untyped : (used_type : TypeUseTree) → HasNoType (type_marks used_type)
+type_untyped used_type = both (base_untyped used_type.base) (each (dims_yield used_type.dims))
 
 -- the one type, and what stands before and behind it
 pub here : {marks : List Mark} → HasNoType marks → DeclaresOneType (m.Type ∷ marks)

@@ -3,7 +3,7 @@ use Rattle.std.proofs.Common.{refl, ℕ, ◌+◌, List, [], ◌∷◌, ◌++◌,
 use Rattle.rf_jtree.specs.declared.tokens.Tok.{Tok}
 use Rattle.rf_jtree.specs.ExprTrees.{ExprTree, ExprsTree}
 use Rattle.rf_jtree.specs.NameTrees.{ManyTree, NameTree, TypeUseTree, ModTree, mods_yield, dims_yield, option_yield, tok_yield}
-use Rattle.rf_jtree.specs.StmtTrees.{VarTree, LocalTree, ForFirstTree, StmtTree, Block, Empty, Label, Value, If, While, Do, For, Each, Switch, Jump, Return, Throw, Sync, Assert, Try}
+use Rattle.rf_jtree.specs.StmtTrees.{VarTree, LocalTree, ForFirstTree, StmtTree, Block, Empty, Label, Expression, If, While, Do, For, Each, Switch, Jump, Return, Throw, Sync, Assert, Try}
 use Rattle.rf_jtree.specs.StmtTrees.{BlockTree, Braces, StmtsTree, NoStmts, Stmts, OtherTree, NoOther, Other, GroupTree, Group, GroupsTree, NoGroups, Groups, CatchTree, Catch, CatchesTree, NoCatches, Catches, LastTree, NoLast, Last}
 use Rattle.rf_jview.specs.declared.marks.Mark.{Mark}
 use Rattle.rf_jview.specs.declared.marks.Mark.TheVariants as m
@@ -32,7 +32,7 @@ locals_untyped back vars = both (one refl (beginning_untyped vars.first)) (more_
 pub local_untyped : (back : ℕ) (local : LocalTree) → HasNoType (local_marks back local)
 local_untyped back local =
     both (each (mods_yield local.mods))
-    (both (type_untyped local.sort) (locals_untyped (after (after back (mods_marks local.mods)) (type_marks local.sort)) local.vars))
+    (both (type_untyped local.used_type) (locals_untyped (after (after back (mods_marks local.mods)) (type_marks local.used_type)) local.vars))
 
 first_untyped : (back : ℕ) (first : ForFirstTree) → HasNoType (first_marks back first)
 first_untyped back (ForFirstTree.Local local) = local_untyped back local
@@ -53,13 +53,13 @@ for_head_untyped first test last {marks} same =
     (both (first_untyped 2 first) (one refl (regroup tests (m.Plain ∷ lasts) marks
     (both (optional expr_marks expr_untyped test) (one refl (regroup (exprs_marks last) (m.Plain ∷ []) marks (both (exprs_untyped last) (one refl same)))))))))
 
-each_head_untyped : (mods : List ModTree) (sort : TypeUseTree) (over : ExprTree) {marks : List Mark}
+each_head_untyped : (mods : List ModTree) (used_type : TypeUseTree) (over : ExprTree) {marks : List Mark}
     → HasNoType marks
-    → HasNoType (each_head_marks mods sort over ++ marks)
-each_head_untyped mods sort over {marks} same =
+    → HasNoType (each_head_marks mods used_type over ++ marks)
+each_head_untyped mods used_type over {marks} same =
     let overs = m.Ahead (2 + counted (expr_marks over)) ∷ m.Plain ∷ expr_marks over in
-    one refl (one refl (regroup (mods_marks mods) (type_marks sort ++ overs) marks
-    (both (each (mods_yield mods)) (regroup (type_marks sort) overs marks (both (type_untyped sort) (one refl (one refl (both (expr_untyped over) same))))))))
+    one refl (one refl (regroup (mods_marks mods) (type_marks used_type ++ overs) marks
+    (both (each (mods_yield mods)) (regroup (type_marks used_type) overs marks (both (type_untyped used_type) (one refl (one refl (both (expr_untyped over) same))))))))
 
 catch_head_untyped : (fixed : Option Tok) (name : NameTree) {marks : List Mark} → HasNoType marks
     → HasNoType (catch_head_marks fixed (type_name_marks name) ++ marks)
@@ -75,16 +75,16 @@ mutual
   stmt_untyped back (Empty semi) = one refl none
   stmt_untyped back (StmtTree.Local local semi) = both (local_untyped back local) (one refl none)
   stmt_untyped back (Label id colon body) = one refl (one refl (stmt_untyped (back + 1 + 1) body))
-  stmt_untyped back (Value value semi) = both (expr_untyped value) (one refl none)
+  stmt_untyped back (Expression expression semi) = both (expr_untyped expression) (one refl none)
   stmt_untyped back (If word left test right then other) = head_untyped test (both (stmt_untyped (after back (head_marks test)) then) (other_untyped (after (after back (head_marks test)) (stmt_marks (after back (head_marks test)) then)) other))
   stmt_untyped back (While word left test right body) = head_untyped test (stmt_untyped (after back (head_marks test)) body)
   stmt_untyped back (Do word body until left test right semi) = one refl (both (stmt_untyped (back + 1) body) (head_untyped test (one refl none)))
   stmt_untyped back (For word left first semi1 test semi2 last right body) = one refl (for_head_untyped first test last (stmt_untyped (after 1 (for_head_marks first test last)) body))
-  stmt_untyped back (Each word left mods sort id colon over right body) = each_head_untyped mods sort over (one refl (stmt_untyped 1 body))
+  stmt_untyped back (Each word left mods used_type id colon over right body) = each_head_untyped mods used_type over (one refl (stmt_untyped 1 body))
   stmt_untyped back (Switch word left on right brace groups end) = head_untyped on (one refl (both (groups_untyped 1 groups) (one refl none)))
   stmt_untyped back (Jump word label semi) = one refl (both (each (option_yield tok_yield label)) (one refl none))
-  stmt_untyped back (Return word value semi) = one refl (both (optional expr_marks expr_untyped value) (one refl none))
-  stmt_untyped back (Throw word value semi) = one refl (both (expr_untyped value) (one refl none))
+  stmt_untyped back (Return word expression semi) = one refl (both (optional expr_marks expr_untyped expression) (one refl none))
+  stmt_untyped back (Throw word expression semi) = one refl (both (expr_untyped expression) (one refl none))
   stmt_untyped back (Sync word left on right body) = head_untyped on (block_untyped o.Block body)
   stmt_untyped back (Assert word test message semi) = one refl (both (expr_untyped test) (both (optional (behind_marks expr_marks) (λ part. one refl (expr_untyped part.1)) message) (one refl none)))
   stmt_untyped back (Try word body catches last) = one refl (both (block_untyped o.Block body) (both (catches_untyped catches) (last_untyped last)))
@@ -101,7 +101,7 @@ mutual
   other_untyped back (Other word stmt) = one refl (stmt_untyped (back + 1) stmt)
 
   pub group_untyped : (back : ℕ) (tree : GroupTree) → HasNoType (group_marks back tree)
-  group_untyped back (Group word value colon body) = one refl (both (optional expr_marks expr_untyped value) (one refl (stmts_untyped (after (back + 1) (option_marks expr_marks value) + 1) body)))
+  group_untyped back (Group word expression colon body) = one refl (both (optional expr_marks expr_untyped expression) (one refl (stmts_untyped (after (back + 1) (option_marks expr_marks expression) + 1) body)))
 
   pub groups_untyped : (back : ℕ) (tree : GroupsTree) → HasNoType (groups_marks back tree)
   groups_untyped back NoGroups = none

@@ -39,10 +39,10 @@ pub record DeclaresField (project : Project) (x : ℕ) (name : List ℕ) (access
   pub unit : PlacedUnit
   pub has_unit : HasUnit project x unit
   pub mods : List ModTree
-  pub sort : TypeUseTree
+  pub used_type : TypeUseTree
   pub vars : ManyTree VarTree
   pub semi : Tok
-  pub member : Contains (tree_of unit).decl.members (Field mods sort vars semi)
+  pub member : Contains (tree_of unit).decl.members (Field mods used_type vars semi)
   pub declared : Contains (var_names vars) name
   pub has_access : access ≡ member_access (is_interface (tree_of unit)) mods
 

@@ -142,5 +142,5 @@ base_no_mod : (base : TypeBaseTree) (rest : List Tok) → BaseFits base → NoMo
 base_no_mod (Prim tok) rest fit = primitive_no_mod tok rest fit
 base_no_mod (Named found) rest fit = ident_no_mod found.ids.first _ fit.0
 
-pub type_no_mod : (sort : TypeUseTree) (rest : List Tok) → TypeFits sort → NoMod (type_yield sort ++ rest)
-type_no_mod sort rest fit = subst NoMod (sym (append_assoc (base_yield sort.base) (dims_yield sort.dims) rest)) (base_no_mod sort.base (dims_yield sort.dims ++ rest) fit.0)
+pub type_no_mod : (used_type : TypeUseTree) (rest : List Tok) → TypeFits used_type → NoMod (type_yield used_type ++ rest)
+type_no_mod used_type rest fit = subst NoMod (sym (append_assoc (base_yield used_type.base) (dims_yield used_type.dims) rest)) (base_no_mod used_type.base (dims_yield used_type.dims ++ rest) fit.0)

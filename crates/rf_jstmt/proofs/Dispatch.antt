@@ -23,7 +23,7 @@ use Rattle.rf_jexpr.proofs.First.{begins_first, expr_first-begins}
 use Rattle.rf_jexpr.proofs.StopLemmas.{weaker, false_or}
 use Rattle.rf_jexpr.proofs.Tools.{both, holds, fails, whether, missing, there, perhaps, bind-None, if-true, if-false, token-other, is_op-IsOp, is_key-IsKey, is_ident-IsIdent}
 use Rattle.rf_jstmt.specs.StmtParts.{StmtParsers}
-use Rattle.rf_jstmt.specs.StmtReads.{block_alone, empty, labeled, value, if_stmt, while_stmt, do_stmt, for_stmt, switch_stmt, jumps, jump, return_stmt, throw_stmt, sync_stmt, assert_stmt, try_stmt, by_word, stmt, block_stmt}
+use Rattle.rf_jstmt.specs.StmtReads.{block_alone, empty, labeled, expression, if_stmt, while_stmt, do_stmt, for_stmt, switch_stmt, jumps, jump, return_stmt, throw_stmt, sync_stmt, assert_stmt, try_stmt, by_word, stmt, block_stmt}
 use Rattle.rf_jstmt.specs.StmtStops.{EndsStmts}
 use Rattle.rf_jstmt.specs.VarReads.{marks_local, ends_before, begins_local, begins_label}
 use Rattle.rf_jstmt.proofs.Declares.{ends_type, NoDeclaration, no_declaration}
@@ -100,10 +100,10 @@ no_ident_behind toks none = elim (perhaps (type_use toks)) [
   | there y e ↦ ap (λ found. ends_before is_ident found) e ∙ (begins_neither is_ident (is_op COLON) y.1 (none y e)).0
 ]
 
-pub expr_no_local : (value : ExprTree) (rest : List Tok) → ExprFits value → IsStatementExpr value → begins_local (expr_yield value ++ rest) ≡ false
+pub expr_no_local : (expression : ExprTree) (rest : List Tok) → ExprFits expression → IsStatementExpr expression → begins_local (expr_yield expression ++ rest) ≡ false
 unfolding begins_local
-expr_no_local value rest fit is =
-    false_or _ _ (begins_first marks_local value rest ∙ expr_no_mark (expr_first value) (expr_first-begins value fit)) (no_ident_behind _ (no_declaration value rest fit (statement_no_name value is)))
+expr_no_local expression rest fit is =
+    false_or _ _ (begins_first marks_local expression rest ∙ expr_no_mark (expr_first expression) (expr_first-begins expression fit)) (no_ident_behind _ (no_declaration expression rest fit (statement_no_name expression is)))
 
 no_label : (toks : List Tok) → NoDeclaration toks → begins_label toks ≡ false
 unfolding begins_label ends_type
@@ -116,8 +116,8 @@ no_label (id ∷ rest) none = elim (whether (is_ident id && begins (is_op COLON)
       absurd (cc (parts.1, no_colon))
 ]
 
-expr_no_label : (value : ExprTree) (rest : List Tok) → ExprFits value → IsStatementExpr value → begins_label (expr_yield value ++ rest) ≡ false
-expr_no_label value rest fit is = no_label _ (no_declaration value rest fit (statement_no_name value is))
+expr_no_label : (expression : ExprTree) (rest : List Tok) → ExprFits expression → IsStatementExpr expression → begins_label (expr_yield expression ++ rest) ≡ false
+expr_no_label expression rest fit is = no_label _ (no_declaration expression rest fit (statement_no_name expression is))
 
 -- ---- the form that is read
 
@@ -137,9 +137,9 @@ module _ (p : Parsers) (s : StmtParsers) where
       first : IsTrue (begins_expr id)
       first = rw h refl
 
-  pub to_value : (expr : ExprTree) (rest : List Tok) → ExprFits expr → IsStatementExpr expr → stmt p s (expr_yield expr ++ rest) ≡ value p (expr_yield expr ++ rest)
+  pub to_expression : (expr : ExprTree) (rest : List Tok) → ExprFits expr → IsStatementExpr expr → stmt p s (expr_yield expr ++ rest) ≡ expression p (expr_yield expr ++ rest)
   unfolding stmt
-  to_value expr rest fit is = if-true _ _ _ (begins_with_expr expr rest fit) ∙ if-false _ _ _ (expr_no_label expr rest fit is)
+  to_expression expr rest fit is = if-true _ _ _ (begins_with_expr expr rest fit) ∙ if-false _ _ _ (expr_no_label expr rest fit is)
 
   pub to_if : (tok : Tok) (rest : List Tok) → IsKey IF tok → stmt p s (tok ∷ rest) ≡ if_stmt p s (tok ∷ rest)
   unfolding stmt by_word begins begins_expr is_op is_key

@@ -48,8 +48,8 @@ base-named toks at (Some end) h named = record { item = Named named.item; is = r
 
 pub type-end : (toks : List Tok) (at base end : ℕ) → IsEndOf toks at (type_base (drop at toks)) base → IsEndOf toks base (many brackets (drop base toks)) end → IsEndOf toks at (type_use (drop at toks)) end
 unfolding type_use dims and_then
-type-end toks at base end sort ends =
-    record { item = record { base = sort.item; dims = record { list = ends.item } }; is = rw (sort.is, ends.is) refl; forth = omega (arith, sort.forth, ends.forth); within = ends.within }
+type-end toks at base end used_type bracket_pairs =
+    record { item = record { base = used_type.item; dims = record { list = bracket_pairs.item } }; is = rw (used_type.is, bracket_pairs.is) refl; forth = omega (arith, used_type.forth, bracket_pairs.forth); within = bracket_pairs.within }
 
 pub type-missing : (toks : List Tok) → type_base toks ≡ None → type_use toks ≡ None
 unfolding type_use and_then
@@ -58,7 +58,7 @@ type-missing toks h = rw h refl
 -- whether an identifier stands behind
 pub variable-there : (toks : List Tok) (at end : ℕ) → IsEndOf toks at (type_use (drop at toks)) end → begins is_ident (drop end toks) ≡ ends_before is_ident (type_use (drop at toks))
 unfolding ends_before
-variable-there toks at end sort = rw sort.is refl
+variable-there toks at end used_type = rw used_type.is refl
 
 pub variable-missing : (toks : List Tok) → type_use toks ≡ None → false ≡ ends_before is_ident (type_use toks)
 unfolding ends_before

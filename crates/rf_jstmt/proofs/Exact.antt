@@ -6,7 +6,7 @@ use Rattle.rf_jtree.specs.declared.keyword_names.TheConstants.{ASSERT, BREAK, CO
 use Rattle.rf_jtree.specs.ExprTrees.{expr_yield}
 use Rattle.rf_jtree.specs.Kinds.{IsOp}
 use Rattle.rf_jtree.specs.StmtFits.{IsNoLocal, StmtFits, BlockFits}
-use Rattle.rf_jtree.specs.StmtTrees.{LocalTree, StmtTree, Block, Empty, Label, Value, If, While, Do, For, Each, Switch, Jump, Return, Throw, Sync, Assert, Try, BlockTree, Braces, local_yield, stmt_yield, block_yield, local_depth, stmt_depth, block_depth}
+use Rattle.rf_jtree.specs.StmtTrees.{LocalTree, StmtTree, Block, Empty, Label, Expression, If, While, Do, For, Each, Switch, Jump, Return, Throw, Sync, Assert, Try, BlockTree, Braces, local_yield, stmt_yield, block_yield, local_depth, stmt_depth, block_depth}
 use Rattle.rf_jexpr.specs.Descent.{parsers}
 use Rattle.rf_jexpr.specs.PartReads.{Parsers}
 use Rattle.rf_jexpr.specs.Reads.{is_op}
@@ -17,7 +17,7 @@ use Rattle.rf_jstmt.specs.StmtReads.{local_stmt, block_stmt, no_stmts, with_stmt
 use Rattle.rf_jstmt.specs.StmtStops.{Over}
 use Rattle.rf_jstmt.specs.VarReads.{local, begins_local}
 use Rattle.rf_jstmt.proofs.Dispatch.{key_no_local, op_no_local, label_no_local, expr_no_local, no_stmt, to_block}
-use Rattle.rf_jstmt.proofs.ExactForms.{IsReadWhere, block_alone-exact, empty-exact, labeled-exact, value-exact, if_stmt-exact, while_stmt-exact, do_stmt-exact, jump-exact, return_stmt-exact, throw_stmt-exact, assert_stmt-exact, sync_stmt-exact}
+use Rattle.rf_jstmt.proofs.ExactForms.{IsReadWhere, block_alone-exact, empty-exact, labeled-exact, expression_stmt-exact, if_stmt-exact, while_stmt-exact, do_stmt-exact, jump-exact, return_stmt-exact, throw_stmt-exact, assert_stmt-exact, sync_stmt-exact}
 use Rattle.rf_jstmt.proofs.ExactLists.{for_stmt-exact, each_for-exact, switch_stmt-exact, try_stmt-exact}
 use Rattle.rf_jmods.proofs.ExactMods.{variable_mods-exact, type_no_mod}
 use Rattle.rf_jstmt.proofs.ExactParts.{AreExactStmts}
@@ -32,16 +32,16 @@ no_local_begins (Block (Braces left list right)) rest fit none = op_no_local LEF
 no_local_begins (Empty semi) rest fit none = op_no_local SEMICOLON refl semi rest fit
 no_local_begins (StmtTree.Local found semi) rest fit none = absurd none
 no_local_begins (Label id colon body) rest fit none = label_no_local id colon _ fit.0.id_is fit.0.colon_is
-no_local_begins (Value value semi) rest fit none = subst (λ toks. begins_local toks ≡ false) (sym (append_assoc (expr_yield value) (semi ∷ []) rest)) (expr_no_local value (semi ∷ rest) fit.1 fit.0.statement)
+no_local_begins (Expression expression semi) rest fit none = subst (λ toks. begins_local toks ≡ false) (sym (append_assoc (expr_yield expression) (semi ∷ []) rest)) (expr_no_local expression (semi ∷ rest) fit.1 fit.0.statement)
 no_local_begins (If word left test right first other) rest fit none = key_no_local IF refl refl word _ fit.0.head.word_is
 no_local_begins (While word left test right body) rest fit none = key_no_local WHILE refl refl word _ fit.0.head.word_is
 no_local_begins (Do word body until left test right semi) rest fit none = key_no_local DO refl refl word _ fit.0.word_is
 no_local_begins (For word left first semi1 test semi2 last right body) rest fit none = key_no_local FOR refl refl word _ fit.0.head.word_is
-no_local_begins (Each word left mods sort id colon over right body) rest fit none = key_no_local FOR refl refl word _ fit.0.head.word_is
+no_local_begins (Each word left mods used_type id colon over right body) rest fit none = key_no_local FOR refl refl word _ fit.0.head.word_is
 no_local_begins (Switch word left on right brace parts end) rest fit none = key_no_local SWITCH refl refl word _ fit.0.head.word_is
 no_local_begins (Jump word label semi) rest fit none = elim fit.word_is [ inl one ↦ key_no_local BREAK refl refl word _ one | inr other ↦ key_no_local CONTINUE refl refl word _ other ]
-no_local_begins (Return word value semi) rest fit none = key_no_local RETURN refl refl word _ fit.0.word_is
-no_local_begins (Throw word value semi) rest fit none = key_no_local THROW refl refl word _ fit.0.word_is
+no_local_begins (Return word expression semi) rest fit none = key_no_local RETURN refl refl word _ fit.0.word_is
+no_local_begins (Throw word expression semi) rest fit none = key_no_local THROW refl refl word _ fit.0.word_is
 no_local_begins (Sync word left on right body) rest fit none = key_no_local SYNCHRONIZED refl refl word _ fit.0.word_is
 no_local_begins (Assert word test message semi) rest fit none = key_no_local ASSERT refl refl word _ fit.0.word_is
 no_local_begins (Try word body parts last) rest fit none = key_no_local TRY refl refl word _ fit.0.word_is
@@ -51,8 +51,8 @@ pub local-exact : (m : ℕ) (p : Parsers) → AreExact m p → (found : LocalTre
 unfolding local
 local-exact m p exact found semi rest good is =
     reads-same (local p) (local_tokens found (semi ∷ rest))
-    (bind-Some _ _ _ _ (variable_mods-exact found.mods _ good.fits.mods_fit (type_no_mod found.sort _ good.fits.sort_fits))
-    (bind-Some _ _ _ _ (type-exact found.sort found.vars.first.id _ good.fits.sort_fits good.fits.vars_fit.0.id_is) (local_vars-exact m p exact found semi rest good is)))
+    (bind-Some _ _ _ _ (variable_mods-exact found.mods _ good.fits.mods_fit (type_no_mod found.used_type _ good.fits.used_type_fits))
+    (bind-Some _ _ _ _ (type-exact found.used_type found.vars.first.id _ good.fits.used_type_fits good.fits.vars_fit.0.id_is) (local_vars-exact m p exact found semi rest good is)))
 
 -- ---- one room from the room below it
 
@@ -65,16 +65,16 @@ module _ (m : ℕ) (p : Parsers) (s : StmtParsers) (exprs : AreExact m p) (stmts
   stmt-exact (Empty semi) none = empty-exact m p s exprs stmts semi
   stmt-exact (StmtTree.Local found semi) none = absurd none
   stmt-exact (Label id colon body) none = labeled-exact m p s exprs stmts id colon body
-  stmt-exact (Value value semi) none = value-exact m p s exprs stmts value semi
+  stmt-exact (Expression expression semi) none = expression_stmt-exact m p s exprs stmts expression semi
   stmt-exact (If word left test right first other) none = if_stmt-exact m p s exprs stmts word left test right first other
   stmt-exact (While word left test right body) none = while_stmt-exact m p s exprs stmts word left test right body
   stmt-exact (Do word body until left test right semi) none = do_stmt-exact m p s exprs stmts word body until left test right semi
   stmt-exact (For word left first semi1 test semi2 last right body) none = for_stmt-exact m p s exprs stmts word left first semi1 test semi2 last right body
-  stmt-exact (Each word left mods sort id colon over right body) none = each_for-exact m p s exprs stmts word left mods sort id colon over right body
+  stmt-exact (Each word left mods used_type id colon over right body) none = each_for-exact m p s exprs stmts word left mods used_type id colon over right body
   stmt-exact (Switch word left on right brace parts end) none = switch_stmt-exact m p s exprs stmts word left on right brace parts end
   stmt-exact (Jump word label semi) none = jump-exact m p s exprs stmts word label semi
-  stmt-exact (Return word value semi) none = return_stmt-exact m p s exprs stmts word value semi
-  stmt-exact (Throw word value semi) none = throw_stmt-exact m p s exprs stmts word value semi
+  stmt-exact (Return word expression semi) none = return_stmt-exact m p s exprs stmts word expression semi
+  stmt-exact (Throw word expression semi) none = throw_stmt-exact m p s exprs stmts word expression semi
   stmt-exact (Sync word left on right body) none = sync_stmt-exact m p s exprs stmts word left on right body
   stmt-exact (Assert word test message semi) none = assert_stmt-exact m p s exprs stmts word test message semi
   stmt-exact (Try word body parts last) none = try_stmt-exact m p s exprs stmts word body parts last
@@ -82,7 +82,7 @@ module _ (m : ℕ) (p : Parsers) (s : StmtParsers) (exprs : AreExact m p) (stmts
   local_stmt-exact : (found : LocalTree) (semi : Tok) (rest : List Tok) → GoodLocal m found → IsOp SEMICOLON semi → block_stmt p s ((local_yield found ++ semi ∷ []) ++ rest) ≡ Some (StmtTree.Local found semi, rest)
   unfolding block_stmt local_stmt
   local_stmt-exact found semi rest good is =
-      let begin = declaration_begins found.mods found.sort found.vars.first.id _ good.fits.mods_fit good.fits.sort_fits good.fits.vars_fit.0.id_is in
+      let begin = declaration_begins found.mods found.used_type found.vars.first.id _ good.fits.mods_fit good.fits.used_type_fits good.fits.vars_fit.0.id_is in
       reads-same (block_stmt p s) (append_assoc (local_yield found) (semi ∷ []) rest)
       (if-true _ _ _ (subst (λ toks. IsTrue (begins_local toks)) (sym (local_tokens found (semi ∷ rest))) begin)
       ∙ bind-Some _ _ _ _ (local-exact m p exprs found semi rest good is) (bind-Some _ _ _ _ (token-at (is_op SEMICOLON) semi rest (IsOp-is_op SEMICOLON semi is)) refl))

@@ -8,7 +8,7 @@ use Rattle.rf_jtree.specs.ExprTrees.{ExprTree, expr_yield, expr_depth}
 use Rattle.rf_jtree.specs.Kinds.{IsOp, IsKey, IsIdent}
 use Rattle.rf_jtree.specs.NameTrees.{option_yield, tok_yield, behind_yield, option_depth}
 use Rattle.rf_jtree.specs.StmtFits.{EndsOpen, ends_open, IsNearestIf, MessageFits, StmtFits, OtherFits, BlockFits}
-use Rattle.rf_jtree.specs.StmtTrees.{StmtTree, Block, Empty, Label, Value, If, While, Do, Jump, Return, Throw, Sync, Assert, OtherTree, NoOther, Other, BlockTree, stmt_yield, other_yield, block_yield, stmt_depth, other_depth, block_depth}
+use Rattle.rf_jtree.specs.StmtTrees.{StmtTree, Block, Empty, Label, Expression, If, While, Do, Jump, Return, Throw, Sync, Assert, OtherTree, NoOther, Other, BlockTree, stmt_yield, other_yield, block_yield, stmt_depth, other_depth, block_depth}
 use Rattle.rf_jexpr.specs.PartReads.{Parsers}
 use Rattle.rf_jexpr.specs.Reads.{is_op, is_key, is_ident, begins, token, optional, behind}
 use Rattle.rf_jexpr.proofs.LoopLemmas.{behind-exact}
@@ -17,10 +17,10 @@ use Rattle.rf_jexpr.proofs.SoundParts.{Good}
 use Rattle.rf_jexpr.proofs.StopLemmas.{stops_colon, stops_semicolon}
 use Rattle.rf_jexpr.proofs.Tools.{bind-Some, bind-None, if-true, if-false, when-true, token-at, token-other, optional-Some, optional-None, IsOp-is_op, IsKey-is_key, IsIdent-is_ident}
 use Rattle.rf_jstmt.specs.StmtParts.{StmtParsers}
-use Rattle.rf_jstmt.specs.StmtReads.{block_alone, empty, labeled, value, other_part, other, if_stmt, while_stmt, do_stmt, jumps, jump, return_stmt, throw_stmt, sync_stmt, assert_stmt, stmt}
+use Rattle.rf_jstmt.specs.StmtReads.{block_alone, empty, labeled, expression, other_part, other, if_stmt, while_stmt, do_stmt, jumps, jump, return_stmt, throw_stmt, sync_stmt, assert_stmt, stmt}
 use Rattle.rf_jstmt.specs.StmtStops.{goes_on, other_goes_on, Over, may_go_on}
 use Rattle.rf_jstmt.specs.StmtTests.{is_statement_expr}
-use Rattle.rf_jstmt.proofs.Dispatch.{to_empty, to_label, to_value, to_if, to_while, to_do, to_break, to_continue, to_return, to_throw, to_sync, to_assert}
+use Rattle.rf_jstmt.proofs.Dispatch.{to_empty, to_label, to_expression, to_if, to_while, to_do, to_break, to_continue, to_return, to_throw, to_sync, to_assert}
 use Rattle.rf_jstmt.proofs.ExactParts.{AreExactStmts, block-exact, expr-exact, head-exact, semi_ends_expr, optional_expr-exact}
 use Rattle.rf_jstmt.proofs.ExactVars.{AreExact, is_label}
 use Rattle.rf_jstmt.proofs.Over.{over_calm, over_else, begins_neither}
@@ -84,11 +84,11 @@ module _ (m : ℕ) (p : Parsers) (s : StmtParsers) (exprs : AreExact m p) (stmts
       (bind-Some _ _ _ _ (token-at (is_op COLON) colon _ (IsOp-is_op COLON colon fit.0.colon_is))
       (bind-Some _ _ _ _ (stmts.stmt body rest (record { fits = fit.1; no_local = fit.0.no_local; shallow = omega arith }) over) refl))
 
-  pub value-exact : (found : ExprTree) (semi : Tok) → IsReadWhere (Value found semi)
-  unfolding value
-  value-exact found semi rest fit shallow over =
+  pub expression_stmt-exact : (found : ExprTree) (semi : Tok) → IsReadWhere (Expression found semi)
+  unfolding expression
+  expression_stmt-exact found semi rest fit shallow over =
       rw append_assoc
-      (to_value p s found (semi ∷ rest) fit.1 fit.0.statement
+      (to_expression p s found (semi ∷ rest) fit.1 fit.0.statement
       ∙ bind-Some _ _ _ _ (expr-exact m p exprs found (semi ∷ rest) fit.1 (omega arith) (stops_semicolon semi rest fit.0.semi_is))
       (bind-Some _ _ _ _ (when-true (is_statement_expr found) _ (Is-is_statement_expr found fit.0.statement) ∙ token-at (is_op SEMICOLON) semi rest (IsOp-is_op SEMICOLON semi fit.0.semi_is)) refl))
 

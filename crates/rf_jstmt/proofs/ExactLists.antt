@@ -41,9 +41,9 @@ for_tokens : (word left : Tok) (first : List Tok) (semi1 : Tok) (test : List Tok
     → (word ∷ left ∷ (first ++ semi1 ∷ (test ++ semi2 ∷ (last ++ right ∷ body)))) ++ rest ≡ word ∷ left ∷ (first ++ semi1 ∷ (test ++ semi2 ∷ (last ++ right ∷ (body ++ rest))))
 for_tokens word left first semi1 test semi2 last right body rest = rw (append_assoc, append_assoc, append_assoc) refl
 
-each_tokens : (word left : Tok) (mods sort : List Tok) (id colon : Tok) (over : List Tok) (right : Tok) (body rest : List Tok)
-    → (word ∷ left ∷ (mods ++ (sort ++ id ∷ colon ∷ (over ++ right ∷ body)))) ++ rest ≡ word ∷ left ∷ (mods ++ (sort ++ id ∷ colon ∷ (over ++ right ∷ (body ++ rest))))
-each_tokens word left mods sort id colon over right body rest = rw (append_assoc, append_assoc, append_assoc) refl
+each_tokens : (word left : Tok) (mods used_type : List Tok) (id colon : Tok) (over : List Tok) (right : Tok) (body rest : List Tok)
+    → (word ∷ left ∷ (mods ++ (used_type ++ id ∷ colon ∷ (over ++ right ∷ body)))) ++ rest ≡ word ∷ left ∷ (mods ++ (used_type ++ id ∷ colon ∷ (over ++ right ∷ (body ++ rest))))
+each_tokens word left mods used_type id colon over right body rest = rw (append_assoc, append_assoc, append_assoc) refl
 
 switch_tokens : (word left : Tok) (on : List Tok) (right brace : Tok) (groups : List Tok) (end : Tok) (rest : List Tok)
     → (word ∷ left ∷ (on ++ right ∷ brace ∷ (groups ++ end ∷ []))) ++ rest ≡ word ∷ left ∷ (on ++ right ∷ brace ∷ (groups ++ end ∷ rest))
@@ -52,8 +52,8 @@ switch_tokens word left on right brace groups end rest = rw (append_assoc, appen
 group_tokens : (word : Tok) (label : List Tok) (colon : Tok) (body rest : List Tok) → (word ∷ (label ++ colon ∷ body)) ++ rest ≡ word ∷ (label ++ colon ∷ (body ++ rest))
 group_tokens word label colon body rest = rw append_assoc refl
 
-catch_tokens : (word left : Tok) (fixed sort : List Tok) (id right : Tok) (body rest : List Tok) → (word ∷ left ∷ (fixed ++ (sort ++ id ∷ right ∷ body))) ++ rest ≡ word ∷ left ∷ (fixed ++ (sort ++ id ∷ right ∷ (body ++ rest)))
-catch_tokens word left fixed sort id right body rest = rw (append_assoc, append_assoc) refl
+catch_tokens : (word left : Tok) (fixed used_type : List Tok) (id right : Tok) (body rest : List Tok) → (word ∷ left ∷ (fixed ++ (used_type ++ id ∷ right ∷ body))) ++ rest ≡ word ∷ left ∷ (fixed ++ (used_type ++ id ∷ right ∷ (body ++ rest)))
+catch_tokens word left fixed used_type id right body rest = rw (append_assoc, append_assoc) refl
 
 try_tokens : (word : Tok) (body catches last rest : List Tok) → (word ∷ (body ++ (catches ++ last))) ++ rest ≡ word ∷ (body ++ (catches ++ (last ++ rest)))
 try_tokens word body catches last rest = rw (append_assoc, append_assoc) refl
@@ -167,26 +167,26 @@ module _ (m : ℕ) (p : Parsers) (s : StmtParsers) (exprs : AreExact m p) (stmts
       (to_for p s word _ fit.0.head.word_is
       ∙ bind-Some _ _ _ _ (token-at (is_key FOR) word _ (IsKey-is_key FOR word fit.0.head.word_is))
       (bind-Some _ _ _ _ (token-at (is_op LEFT_PAREN) left _ (IsOp-is_op LEFT_PAREN left fit.0.head.parens.0))
-      (if-true _ _ _ (declaration_begins local.mods local.sort local.vars.first.id _ fit.1.mods_fit fit.1.sort_fits fit.1.vars_fit.0.id_is)
-      ∙ bind-Some _ _ _ _ (variable_mods-exact local.mods _ fit.1.mods_fit (type_no_mod local.sort _ fit.1.sort_fits))
-      (bind-Some _ _ _ _ (type-exact local.sort local.vars.first.id _ fit.1.sort_fits fit.1.vars_fit.0.id_is)
+      (if-true _ _ _ (declaration_begins local.mods local.used_type local.vars.first.id _ fit.1.mods_fit fit.1.used_type_fits fit.1.vars_fit.0.id_is)
+      ∙ bind-Some _ _ _ _ (variable_mods-exact local.mods _ fit.1.mods_fit (type_no_mod local.used_type _ fit.1.used_type_fits))
+      (bind-Some _ _ _ _ (type-exact local.used_type local.vars.first.id _ fit.1.used_type_fits fit.1.vars_fit.0.id_is)
       (if-false _ _ _ (vars_no_label local.vars (semi1 ∷ _) fit.1.vars_fit (semi_no_colon semi1 _ fit.0.semi1_is))
       ∙ bind-Some _ _ _ _ (local_vars-exact m p exprs local semi1 _ (record { fits = fit.1; shallow = omega arith }) fit.0.semi1_is)
       (basic_for-exact word left (ForFirstTree.Local local) semi1 test semi2 end right body rest fit.0 fit.2 fit.3 fit.4
       (record { of_test = omega arith; of_last = omega arith; of_body = omega arith }) over))))))
 
-  pub each_for-exact : (word left : Tok) (mods : List ModTree) (sort : TypeUseTree) (id colon : Tok) (over_expr : ExprTree) (right : Tok) (body : StmtTree) → IsReadWhere m p s exprs stmts (Each word left mods sort id colon over_expr right body)
+  pub each_for-exact : (word left : Tok) (mods : List ModTree) (used_type : TypeUseTree) (id colon : Tok) (over_expr : ExprTree) (right : Tok) (body : StmtTree) → IsReadWhere m p s exprs stmts (Each word left mods used_type id colon over_expr right body)
   unfolding for_stmt local_for whole_each
-  each_for-exact word left mods sort id colon over_expr right body rest fit shallow over =
-      reads-same (stmt p s) (each_tokens word left (mods_yield mods) (type_yield sort) id colon (expr_yield over_expr) right (stmt_yield body) rest)
+  each_for-exact word left mods used_type id colon over_expr right body rest fit shallow over =
+      reads-same (stmt p s) (each_tokens word left (mods_yield mods) (type_yield used_type) id colon (expr_yield over_expr) right (stmt_yield body) rest)
       (to_for p s word _ fit.0.head.word_is
       ∙ bind-Some _ _ _ _ (token-at (is_key FOR) word _ (IsKey-is_key FOR word fit.0.head.word_is))
       (bind-Some _ _ _ _ (token-at (is_op LEFT_PAREN) left _ (IsOp-is_op LEFT_PAREN left fit.0.head.parens.0))
-      (if-true _ _ _ (declaration_begins mods sort id _ fit.0.mods_fit fit.1 fit.0.id_is)
-      ∙ bind-Some _ _ _ _ (variable_mods-exact mods _ fit.0.mods_fit (type_no_mod sort _ fit.1))
-      (bind-Some _ _ _ _ (type-exact sort id _ fit.1 fit.0.id_is)
+      (if-true _ _ _ (declaration_begins mods used_type id _ fit.0.mods_fit fit.1 fit.0.id_is)
+      ∙ bind-Some _ _ _ _ (variable_mods-exact mods _ fit.0.mods_fit (type_no_mod used_type _ fit.1))
+      (bind-Some _ _ _ _ (type-exact used_type id _ fit.1 fit.0.id_is)
       (if-true _ _ _ (is_label id colon _ fit.0.id_is fit.0.colon_is)
-      ∙ each_for-whole p s word left mods sort _
+      ∙ each_for-whole p s word left mods used_type _
       ∙ bind-Some _ _ _ _ (token-at is_ident id _ (IsIdent-is_ident id fit.0.id_is))
       (bind-Some _ _ _ _ (token-at (is_op COLON) colon _ (IsOp-is_op COLON colon fit.0.colon_is))
       (bind-Some _ _ _ _ (expr-exact m p exprs over_expr (right ∷ _) fit.2 (omega arith) (stops_paren right _ fit.0.head.parens.1))
@@ -254,25 +254,25 @@ module _ (m : ℕ) (p : Parsers) (s : StmtParsers) (exprs : AreExact m p) (stmts
 
   -- ---- `try`
 
-  fixed-exact : (fixed : Option Tok) (sort : NameTree) (rest : List Tok) → IfSome fixed (IsKey FINAL) → NameFits sort → optional (token (is_key FINAL)) (option_yield tok_yield fixed ++ (name_yield sort ++ rest)) ≡ Some (fixed, name_yield sort ++ rest)
-  fixed-exact None sort rest fit sort_fits = optional-None _ _ (token-other (is_key FINAL) (name_yield sort ++ rest) (ident_no_final sort.ids.first _ sort_fits.0))
-  fixed-exact (Some tok) sort rest fit sort_fits = optional-Some _ _ _ _ (token-at (is_key FINAL) tok _ (IsKey-is_key FINAL tok fit))
+  fixed-exact : (fixed : Option Tok) (used_type : NameTree) (rest : List Tok) → IfSome fixed (IsKey FINAL) → NameFits used_type → optional (token (is_key FINAL)) (option_yield tok_yield fixed ++ (name_yield used_type ++ rest)) ≡ Some (fixed, name_yield used_type ++ rest)
+  fixed-exact None used_type rest fit used_type_fits = optional-None _ _ (token-other (is_key FINAL) (name_yield used_type ++ rest) (ident_no_final used_type.ids.first _ used_type_fits.0))
+  fixed-exact (Some tok) used_type rest fit used_type_fits = optional-Some _ _ _ _ (token-at (is_key FINAL) tok _ (IsKey-is_key FINAL tok fit))
 
   catch_part-exact : IsExact (GoodCatch m) Anything catch_yield (catch_part s)
   unfolding whole_catch
-  catch_part-exact (Catch word left fixed sort id right body) rest good stop =
-      reads-same (catch_part s) (catch_tokens word left (option_yield tok_yield fixed) (name_yield sort) id right (block_yield body) rest)
+  catch_part-exact (Catch word left fixed used_type id right body) rest good stop =
+      reads-same (catch_part s) (catch_tokens word left (option_yield tok_yield fixed) (name_yield used_type) id right (block_yield body) rest)
       (catch_part-whole s _
       ∙ bind-Some _ _ _ _ (token-at (is_key CATCH) word _ (IsKey-is_key CATCH word good.fits.0.head.word_is))
       (bind-Some _ _ _ _ (token-at (is_op LEFT_PAREN) left _ (IsOp-is_op LEFT_PAREN left good.fits.0.head.parens.0))
-      (bind-Some _ _ _ _ (fixed-exact fixed sort _ good.fits.0.fixed_is good.fits.1)
-      (bind-Some _ _ _ _ (name-exact sort (id ∷ _) good.fits.1 (ident_no_dot id _ good.fits.0.id_is))
+      (bind-Some _ _ _ _ (fixed-exact fixed used_type _ good.fits.0.fixed_is good.fits.1)
+      (bind-Some _ _ _ _ (name-exact used_type (id ∷ _) good.fits.1 (ident_no_dot id _ good.fits.0.id_is))
       (bind-Some _ _ _ _ (token-at is_ident id _ (IsIdent-is_ident id good.fits.0.id_is))
       (bind-Some _ _ _ _ (token-at (is_op RIGHT_PAREN) right _ (IsOp-is_op RIGHT_PAREN right good.fits.0.head.parens.1))
       (bind-Some _ _ _ _ (block-exact m s stmts body rest (record { fits = good.fits.2; shallow = good.shallow }) tt) refl)))))))
 
   catch_some : (one : CatchTree) → GoodCatch m one → 1 ≤ length (catch_yield one)
-  catch_some (Catch word left fixed sort id right body) good = omega arith
+  catch_some (Catch word left fixed used_type id right body) good = omega arith
 
   no_catch : (rest : List Tok) → begins (is_key CATCH) rest ≡ false → catch_part s rest ≡ None
   unfolding whole_catch

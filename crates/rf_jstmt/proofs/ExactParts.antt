@@ -113,19 +113,19 @@ module _ (m : ℕ) (p : Parsers) (exact : AreExact m p) where
   expr-exact expr rest fit shallow stop = exact.expr expr rest (record { fits = fit; binds = omega arith; shallow = shallow }) stop
 
   -- a keyword with one in parentheses
-  pub head-exact : (key : Kw) (word left : Tok) (value : ExprTree) (right : Tok) (rest : List Tok) → IsHead key word left right → ExprFits value → expr_depth value ≤ m
-      → head p key (word ∷ left ∷ (expr_yield value ++ right ∷ rest)) ≡ Some (record { word = word; left = left; value = value; right = right }, rest)
+  pub head-exact : (key : Kw) (word left : Tok) (expression : ExprTree) (right : Tok) (rest : List Tok) → IsHead key word left right → ExprFits expression → expr_depth expression ≤ m
+      → head p key (word ∷ left ∷ (expr_yield expression ++ right ∷ rest)) ≡ Some (record { word = word; left = left; expression = expression; right = right }, rest)
   unfolding head
-  head-exact key word left value right rest is fit shallow =
+  head-exact key word left expression right rest is fit shallow =
       bind-Some _ _ _ _ (token-at (is_key key) word _ (IsKey-is_key key word is.word_is))
       (bind-Some _ _ _ _ (token-at (is_op LEFT_PAREN) left _ (IsOp-is_op LEFT_PAREN left is.parens.0))
-      (bind-Some _ _ _ _ (expr-exact value (right ∷ rest) fit shallow (stops_paren right rest is.parens.1))
+      (bind-Some _ _ _ _ (expr-exact expression (right ∷ rest) fit shallow (stops_paren right rest is.parens.1))
       (bind-Some _ _ _ _ (token-at (is_op RIGHT_PAREN) right rest (IsOp-is_op RIGHT_PAREN right is.parens.1)) refl)))
 
   pub optional_expr-exact : (found : Option ExprTree) (tok : Tok) (rest : List Tok) → GoodOption m found → EndsExpr tok rest → optional_expr p (option_yield expr_yield found ++ tok ∷ rest) ≡ Some (found, tok ∷ rest)
   unfolding optional_expr begins
   optional_expr-exact None tok rest good ends = if-false _ _ _ ends.no_expr
-  optional_expr-exact (Some value) tok rest good ends = if-true _ _ _ (begins_with_expr value (tok ∷ rest) good.fits) ∙ bind-Some _ _ _ _ (expr-exact value (tok ∷ rest) good.fits good.shallow ends.stop) refl
+  optional_expr-exact (Some expression) tok rest good ends = if-true _ _ _ (begins_with_expr expression (tok ∷ rest) good.fits) ∙ bind-Some _ _ _ _ (expr-exact expression (tok ∷ rest) good.fits good.shallow ends.stop) refl
 
   some_exprs-exact : (first : ExprTree) (more : MoreExprsTree) (tok : Tok) (rest : List Tok) → GoodExprs m (Exprs first more) → EndsExpr tok rest → some_exprs p (exprs_yield (Exprs first more) ++ tok ∷ rest) ≡ Some (Exprs first more, tok ∷ rest)
   unfolding some_exprs exprs_of behind begins

@@ -55,8 +55,8 @@ unfolding begins is_op
 assign_no_bracket tok rest h = rw h refl
 
 beginning_no_bracket : (found : Option (Tok × InitTree)) (rest : List Tok) → IfSome found BeginningFits → EndsVar rest → begins (is_op LEFT_BRACKET) (option_yield (behind_yield init_yield) found ++ rest) ≡ false
-beginning_no_bracket None rest fit ends = ends.no_bracket
-beginning_no_bracket (Some beginning) rest fit ends = assign_no_bracket beginning.0 _ fit.0
+beginning_no_bracket None rest fit stops = stops.no_bracket
+beginning_no_bracket (Some beginning) rest fit stops = assign_no_bracket beginning.0 _ fit.0
 
 pub var_good : (room : ℕ) (var : VarTree) → VarFits var → var_depth var ≤ room → IfSome var.init (GoodBeginning room)
 var_good room var fit shallow = by_init var.init fit.beginning_fits shallow
@@ -77,16 +77,16 @@ vars_good room vars fit shallow = (record { fits = fit.0; shallow = omega arith 
 module _ (m : ℕ) (p : Parsers) (exact : AreExact m p) where
   beginning-exact : (found : Option (Tok × InitTree)) (rest : List Tok) → IfSome found (GoodBeginning m) → EndsVar rest → optional (behind (is_op ASSIGN) p.init) (option_yield (behind_yield init_yield) found ++ rest) ≡ Some (found, rest)
   unfolding behind
-  beginning-exact None rest fit ends = optional-None _ rest (bind-None _ _ (token-other (is_op ASSIGN) rest ends.no_assign))
-  beginning-exact (Some beginning) rest fit ends = optional-Some _ _ beginning rest (behind-exact (GoodInit m) (Stops ASSIGNMENT_LEVEL) init_yield ASSIGN p.init exact.init beginning rest fit ends.stop)
+  beginning-exact None rest fit stops = optional-None _ rest (bind-None _ _ (token-other (is_op ASSIGN) rest stops.no_assign))
+  beginning-exact (Some beginning) rest fit stops = optional-Some _ _ beginning rest (behind-exact (GoodInit m) (Stops ASSIGNMENT_LEVEL) init_yield ASSIGN p.init exact.init beginning rest fit stops.stop)
 
   pub var-exact : IsExact (GoodVar m) EndsVar var_yield (var p)
   unfolding var
-  var-exact found rest good ends =
+  var-exact found rest good stops =
       rw append_assoc
       (bind-Some _ _ _ _ (token-at is_ident found.id _ (IsIdent-is_ident found.id good.fits.id_is))
-      (bind-Some _ _ _ _ (dims-exact found.dims (option_yield (behind_yield init_yield) found.init ++ rest) good.fits.dims_fit (no_brackets _ (beginning_no_bracket found.init rest good.fits.beginning_fits ends)))
-      (bind-Some _ _ _ _ (beginning-exact found.init rest (var_good m found good.fits good.shallow) ends) refl)))
+      (bind-Some _ _ _ _ (dims-exact found.dims (option_yield (behind_yield init_yield) found.init ++ rest) good.fits.dims_fit (no_brackets _ (beginning_no_bracket found.init rest good.fits.beginning_fits stops)))
+      (bind-Some _ _ _ _ (beginning-exact found.init rest (var_good m found good.fits good.shallow) stops) refl)))
 
   pub vars-exact : IsExact (ManyFit (GoodVar m) COMMA) (λ rest. EndsVar rest × (behind (is_op COMMA) (var p) rest ≡ None)) (many_yield var_yield) (separated COMMA (var p))
   vars-exact = separated-exact (GoodVar m) EndsVar var_yield COMMA (var p) var-exact comma_ends
@@ -98,7 +98,7 @@ module _ (m : ℕ) (p : Parsers) (exact : AreExact m p) where
       let none : behind (is_op COMMA) (var p) (semi ∷ rest) ≡ None = bind-None _ _ (token-other (is_op COMMA) (semi ∷ rest) (rw is refl)) in
       vars-exact vars (semi ∷ rest) good (semi_ends semi rest is, none)
 
-  pub local_vars-exact : (found : LocalTree) (semi : Tok) (rest : List Tok) → GoodLocal m found → IsOp SEMICOLON semi → local_vars p found.mods found.sort (many_yield var_yield found.vars ++ semi ∷ rest) ≡ Some (found, semi ∷ rest)
+  pub local_vars-exact : (found : LocalTree) (semi : Tok) (rest : List Tok) → GoodLocal m found → IsOp SEMICOLON semi → local_vars p found.mods found.used_type (many_yield var_yield found.vars ++ semi ∷ rest) ≡ Some (found, semi ∷ rest)
   unfolding local_vars
   local_vars-exact found semi rest good is = bind-Some _ _ _ _ (vars_semi-exact found.vars semi rest (vars_good m found.vars good.fits.vars_fit good.shallow) is) refl
 
@@ -107,8 +107,8 @@ ident_no_op : (tok : Tok) (rest : List Tok) → IsIdent tok → (begins (is_op D
 unfolding begins is_op
 ident_no_op tok rest h = (rw h refl, rw h refl)
 
-pub type-exact : (sort : TypeUseTree) (id : Tok) (rest : List Tok) → TypeFits sort → IsIdent id → type_use (type_yield sort ++ id ∷ rest) ≡ Some (sort, id ∷ rest)
-type-exact sort id rest fit is = let ends = ident_no_op id rest is in type_use-exact sort (id ∷ rest) fit (ends.0, no_brackets (id ∷ rest) ends.1)
+pub type-exact : (used_type : TypeUseTree) (id : Tok) (rest : List Tok) → TypeFits used_type → IsIdent id → type_use (type_yield used_type ++ id ∷ rest) ≡ Some (used_type, id ∷ rest)
+type-exact used_type id rest fit is = let stops = ident_no_op id rest is in type_use-exact used_type (id ∷ rest) fit (stops.0, no_brackets (id ∷ rest) stops.1)
 
 -- ---- where a declaration begins
 
@@ -122,15 +122,15 @@ type_begins_local : (base : TypeBaseTree) (pairs : List (Tok × Tok)) (id : Tok)
 unfolding begins_local begins marks_local ends_before
 type_begins_local (Prim tok) pairs id rest fit each is = first_true _ _ (second_true (is_key FINAL tok) _ (second_true (is_op AT tok) _ fit))
 type_begins_local (Named found) pairs id rest fit each is =
-    let sort : TypeUseTree = record { base = Named found; dims = record { list = pairs } } in
-    second_true (begins marks_local (type_yield sort ++ id ∷ rest)) _ (subst (λ read. IsTrue (ends_before is_ident read)) (sym (type-exact sort id rest (fit, each) is)) (IsIdent-is_ident id is))
+    let used_type : TypeUseTree = record { base = Named found; dims = record { list = pairs } } in
+    second_true (begins marks_local (type_yield used_type ++ id ∷ rest)) _ (subst (λ read. IsTrue (ends_before is_ident read)) (sym (type-exact used_type id rest (fit, each) is)) (IsIdent-is_ident id is))
 
-pub declaration_begins : (mods : List ModTree) (sort : TypeUseTree) (id : Tok) (rest : List Tok) → VariableModsFit mods → TypeFits sort → IsIdent id → IsTrue (begins_local (mods_yield mods ++ (type_yield sort ++ id ∷ rest)))
+pub declaration_begins : (mods : List ModTree) (used_type : TypeUseTree) (id : Tok) (rest : List Tok) → VariableModsFit mods → TypeFits used_type → IsIdent id → IsTrue (begins_local (mods_yield mods ++ (type_yield used_type ++ id ∷ rest)))
 unfolding begins_local
-declaration_begins [] sort id rest fit sort_fits is = type_begins_local sort.base sort.dims.list id rest sort_fits.0 sort_fits.1 is
-declaration_begins (one ∷ mods) sort id rest fit sort_fits is =
-    let here = mod_begins_local one (mods_yield mods ++ (type_yield sort ++ id ∷ rest)) fit.fit.each.0 fit.each.0 in
-    first_true _ _ (subst (λ toks. IsTrue (begins marks_local toks)) (sym (append_assoc (mod_yield one) (mods_yield mods) (type_yield sort ++ id ∷ rest))) here)
+declaration_begins [] used_type id rest fit used_type_fits is = type_begins_local used_type.base used_type.dims.list id rest used_type_fits.0 used_type_fits.1 is
+declaration_begins (one ∷ mods) used_type id rest fit used_type_fits is =
+    let here = mod_begins_local one (mods_yield mods ++ (type_yield used_type ++ id ∷ rest)) fit.fit.each.0 fit.each.0 in
+    first_true _ _ (subst (λ toks. IsTrue (begins marks_local toks)) (sym (append_assoc (mod_yield one) (mods_yield mods) (type_yield used_type ++ id ∷ rest))) here)
 
 -- ---- no label stands where variables do
 
@@ -163,10 +163,10 @@ more_no_colon (part ∷ more) rest fit h = rw fit.0.0 refl
 
 pub vars_no_label : (vars : ManyTree VarTree) (rest : List Tok) → ManyFit VarFits COMMA vars → begins (is_op COLON) rest ≡ false → begins_label (many_yield var_yield vars ++ rest) ≡ false
 vars_no_label vars rest fit h =
-    let ends : List Tok = dims_yield vars.first.dims in
+    let bracket_pairs : List Tok = dims_yield vars.first.dims in
     let beginning : List Tok = option_yield (behind_yield init_yield) vars.first.init in
     let more : List Tok = flat_map (λ (part : Tok × VarTree). part.0 ∷ var_yield part.1) vars.rest in
-    let same : ((ends ++ beginning) ++ more) ++ rest ≡ ends ++ (beginning ++ (more ++ rest)) = append_assoc (ends ++ beginning) more rest ∙ append_assoc ends beginning (more ++ rest) in
-    let none : begins (is_op COLON) (ends ++ (beginning ++ (more ++ rest))) ≡ false =
+    let same : ((bracket_pairs ++ beginning) ++ more) ++ rest ≡ bracket_pairs ++ (beginning ++ (more ++ rest)) = append_assoc (bracket_pairs ++ beginning) more rest ∙ append_assoc bracket_pairs beginning (more ++ rest) in
+    let none : begins (is_op COLON) (bracket_pairs ++ (beginning ++ (more ++ rest))) ≡ false =
     dims_no_colon vars.first.dims.list _ fit.0.dims_fit (beginning_no_colon vars.first.init _ fit.0.beginning_fits (more_no_colon vars.rest rest fit.1 h)) in
-    begins_no_label vars.first.id (((ends ++ beginning) ++ more) ++ rest) (subst (λ toks. begins (is_op COLON) toks ≡ false) (sym same) none)
+    begins_no_label vars.first.id (((bracket_pairs ++ beginning) ++ more) ++ rest) (subst (λ toks. begins (is_op COLON) toks ≡ false) (sym same) none)

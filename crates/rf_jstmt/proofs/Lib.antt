@@ -17,7 +17,7 @@ pub mod SoundVars
 pub mod StmtFirst
 pub mod TestLemmas
 mod FrontLemmas
-pub mod ValueLemmas
+pub mod HeadLemmas
 mod BlockAnswers
 mod ListShows
 mod StmtRooms

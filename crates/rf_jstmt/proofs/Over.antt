@@ -26,7 +26,7 @@ mutual
   goes_on_calm (If word left test right first other) tok h = other_calm other (goes_on first tok) tok h (goes_on_calm first tok h)
   goes_on_calm (While word left test right body) tok h = goes_on_calm body tok h
   goes_on_calm (For word left first semi1 test semi2 last right body) tok h = goes_on_calm body tok h
-  goes_on_calm (Each word left mods sort id colon over right body) tok h = goes_on_calm body tok h
+  goes_on_calm (Each word left mods used_type id colon over right body) tok h = goes_on_calm body tok h
   goes_on_calm (Try word body parts last) tok h = last_calm last tok h
   goes_on_calm stmt tok h = refl
 
@@ -51,7 +51,7 @@ mutual
   closed_no_else (If word left test right first other) tok h is = other_no_else other (goes_on first tok) tok h is
   closed_no_else (While word left test right body) tok h is = closed_no_else body tok h is
   closed_no_else (For word left first semi1 test semi2 last right body) tok h is = closed_no_else body tok h is
-  closed_no_else (Each word left mods sort id colon over right body) tok h is = closed_no_else body tok h is
+  closed_no_else (Each word left mods used_type id colon over right body) tok h is = closed_no_else body tok h is
   closed_no_else (Try word body parts last) tok h is = last_no_else last tok is
   closed_no_else stmt tok h is = refl
 

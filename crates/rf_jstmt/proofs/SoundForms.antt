@@ -8,7 +8,7 @@ use Rattle.rf_jtree.specs.ExprTrees.{ExprTree, expr_yield, expr_depth}
 use Rattle.rf_jtree.specs.Kinds.{IsOp, IsKey, IsIdent}
 use Rattle.rf_jtree.specs.NameTrees.{tok_yield, option_depth}
 use Rattle.rf_jtree.specs.StmtFits.{IsStatementExpr, EndsOpen, ends_open, IsNearestIf, MessageFits, OtherFits}
-use Rattle.rf_jtree.specs.StmtTrees.{StmtTree, Block, Empty, Label, Value, If, While, Do, Jump, Return, Throw, Sync, Assert}
+use Rattle.rf_jtree.specs.StmtTrees.{StmtTree, Block, Empty, Label, Expression, If, While, Do, Jump, Return, Throw, Sync, Assert}
 use Rattle.rf_jtree.specs.StmtTrees.{OtherTree, NoOther, Other}
 use Rattle.rf_jtree.specs.StmtTrees.{stmt_yield, other_yield, other_depth}
 use Rattle.rf_jexpr.specs.PartReads.{Parsers}
@@ -18,7 +18,7 @@ use Rattle.rf_jexpr.proofs.SoundNames.{token-sound, optional-sound}
 use Rattle.rf_jexpr.proofs.SoundParts.{Good, AreSound}
 use Rattle.rf_jexpr.proofs.Tools.{either_way, token_takes, is_op-IsOp, is_key-IsKey, is_ident-IsIdent}
 use Rattle.rf_jstmt.specs.StmtParts.{StmtParsers, block, optional_expr}
-use Rattle.rf_jstmt.specs.StmtReads.{block_alone, empty, labeled, value, other_part, other, if_stmt, while_stmt, do_stmt, jumps, jump, return_stmt, throw_stmt, sync_stmt, assert_stmt, stmt}
+use Rattle.rf_jstmt.specs.StmtReads.{block_alone, empty, labeled, expression, other_part, other, if_stmt, while_stmt, do_stmt, jumps, jump, return_stmt, throw_stmt, sync_stmt, assert_stmt, stmt}
 use Rattle.rf_jstmt.specs.StmtTests.{is_statement_expr}
 use Rattle.rf_jstmt.proofs.SoundParts.{GoodPart, AreSoundStmts, block-sound, head_then, step_head, optional_expr-sound}
 use Rattle.rf_jmods.proofs.Steps.{step_tok, step_part, step_when, tok_then, part_then, at_last, tok_last, done, max_le, one_more, alone}
@@ -55,10 +55,10 @@ not_open stmt h = λ is. no (ends_open stmt) h is
     no false h is = cc
 
 -- a `;` behind an expression that may stand as a statement
-abbrev EndsValue : ExprTree → Tok → Type 0
-EndsValue found semi = IsStatementExpr found × IsOp SEMICOLON semi
+abbrev EndsExpression : ExprTree → Tok → Type 0
+EndsExpression found semi = IsStatementExpr found × IsOp SEMICOLON semi
 
-semi-sound : (found : ExprTree) → IsSound (EndsValue found) tok_yield (λ toks. when (is_statement_expr found) (token (is_op SEMICOLON) toks))
+semi-sound : (found : ExprTree) → IsSound (EndsExpression found) tok_yield (λ toks. when (is_statement_expr found) (token (is_op SEMICOLON) toks))
 semi-sound found toks y h =
     step_when (is_statement_expr found) _ y h (λ is k.
     let took = token_takes (is_op SEMICOLON) toks y k in
@@ -93,12 +93,12 @@ module _ (m : ℕ) (p : Parsers) (s : StmtParsers) (sound : AreSound m p) (sound
       })
       (tok_then a.takes (tok_then b.takes (at_last _ c.takes))))))
 
-  pub value-sound : IsSound (GoodPart (suc m)) stmt_yield (value p)
-  unfolding value
-  value-sound toks y h =
+  pub expression_stmt-sound : IsSound (GoodPart (suc m)) stmt_yield (expression_stmt p)
+  unfolding expression
+  expression_stmt-sound toks y h =
       step_part _ _ p.expr toks _ y sound.expr h (λ found a k.
       step_part _ _ (λ others. when (is_statement_expr found.0) (token (is_op SEMICOLON) others)) found.1 _ y (semi-sound found.0) k (λ semi b same.
-      done (GoodPart (suc m)) stmt_yield toks (Value found.0 semi.0) semi.1 y same
+      done (GoodPart (suc m)) stmt_yield toks (Expression found.0 semi.0) semi.1 y same
       (record { fits = (record { statement = b.fits.0; semi_is = b.fits.1 }, a.fits.fits); no_local = tt; shallow = one_more _ m a.fits.shallow })
       (part_then _ a.takes (at_last _ b.takes))))
 
@@ -120,22 +120,22 @@ module _ (m : ℕ) (p : Parsers) (s : StmtParsers) (sound : AreSound m p) (sound
       step_head m p sound IF toks _ y h (λ test a k.
       step_part _ _ s.stmt test.1 _ y sounds.stmt k (λ first b l.
       step_part _ _ (other s first.0) first.1 _ y (other-sound first.0) l (λ end c same.
-      done (GoodPart (suc m)) stmt_yield toks (If test.0.word test.0.left test.0.value test.0.right first.0 end.0) end.1 y same
+      done (GoodPart (suc m)) stmt_yield toks (If test.0.word test.0.left test.0.expression test.0.right first.0 end.0) end.1 y same
       (record {
         fits = (record { head = a.head; nearest = c.fits.nearest; no_local = b.fits.no_local }, a.fits, b.fits.fits, c.fits.fits);
         no_local = tt;
         shallow = one_more _ m (max_le _ _ m a.shallow (max_le _ _ m b.fits.shallow c.fits.shallow));
       })
-      (head_then _ _ test.0.value _ a.takes (part_then _ b.takes (at_last _ c.takes))))))
+      (head_then _ _ test.0.expression _ a.takes (part_then _ b.takes (at_last _ c.takes))))))
 
   pub while_stmt-sound : IsSound (GoodPart (suc m)) stmt_yield (while_stmt p s)
   unfolding while_stmt
   while_stmt-sound toks y h =
       step_head m p sound WHILE toks _ y h (λ test a k.
       step_part _ _ s.stmt test.1 _ y sounds.stmt k (λ body b same.
-      done (GoodPart (suc m)) stmt_yield toks (While test.0.word test.0.left test.0.value test.0.right body.0) body.1 y same
+      done (GoodPart (suc m)) stmt_yield toks (While test.0.word test.0.left test.0.expression test.0.right body.0) body.1 y same
       (record { fits = (record { head = a.head; no_local = b.fits.no_local }, a.fits, b.fits.fits); no_local = tt; shallow = one_more _ m (max_le _ _ m a.shallow b.fits.shallow) })
-      (head_then _ _ test.0.value _ a.takes (at_last _ b.takes))))
+      (head_then _ _ test.0.expression _ a.takes (at_last _ b.takes))))
 
   pub do_stmt-sound : IsSound (GoodPart (suc m)) stmt_yield (do_stmt p s)
   unfolding do_stmt
@@ -144,13 +144,13 @@ module _ (m : ℕ) (p : Parsers) (s : StmtParsers) (sound : AreSound m p) (sound
       step_part _ _ s.stmt word.1 _ y sounds.stmt k (λ body b l.
       step_head m p sound WHILE body.1 _ y l (λ test c n.
       step_tok (is_op SEMICOLON) test.1 _ y n (λ semi d same.
-      done (GoodPart (suc m)) stmt_yield toks (Do word.0 body.0 test.0.word test.0.left test.0.value test.0.right semi.0) semi.1 y same
+      done (GoodPart (suc m)) stmt_yield toks (Do word.0 body.0 test.0.word test.0.left test.0.expression test.0.right semi.0) semi.1 y same
       (record {
         fits = (record { word_is = is_key-IsKey DO word.0 a.is; no_local = b.fits.no_local; until_is = c.head; semi_is = is_op-IsOp SEMICOLON semi.0 d.is }, b.fits.fits, c.fits);
         no_local = tt;
         shallow = one_more _ m (max_le _ _ m b.fits.shallow c.shallow);
       })
-      (tok_then a.takes (part_then _ b.takes (head_then _ _ test.0.value _ c.takes (tok_last d.takes))))))))
+      (tok_then a.takes (part_then _ b.takes (head_then _ _ test.0.expression _ c.takes (tok_last d.takes))))))))
 
   pub jump-sound : IsSound (GoodPart (suc m)) stmt_yield jump
   unfolding jump
@@ -187,9 +187,9 @@ module _ (m : ℕ) (p : Parsers) (s : StmtParsers) (sound : AreSound m p) (sound
   sync_stmt-sound toks y h =
       step_head m p sound SYNCHRONIZED toks _ y h (λ on a k.
       step_part _ _ (block s) on.1 _ y (block-sound m s sounds) k (λ body b same.
-      done (GoodPart (suc m)) stmt_yield toks (Sync on.0.word on.0.left on.0.value on.0.right body.0) body.1 y same
+      done (GoodPart (suc m)) stmt_yield toks (Sync on.0.word on.0.left on.0.expression on.0.right body.0) body.1 y same
       (record { fits = (a.head, a.fits, b.fits.fits); no_local = tt; shallow = one_more _ m (max_le _ _ m a.shallow b.fits.shallow) })
-      (head_then _ _ on.0.value _ a.takes (at_last _ b.takes))))
+      (head_then _ _ on.0.expression _ a.takes (at_last _ b.takes))))
 
   pub assert_stmt-sound : IsSound (GoodPart (suc m)) stmt_yield (assert_stmt p)
   unfolding assert_stmt

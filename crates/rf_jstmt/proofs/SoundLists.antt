@@ -111,16 +111,16 @@ module _ (m : ℕ) (p : Parsers) (s : StmtParsers) (sound : AreSound m p) (sound
       })
       (tok_then takes_words (tok_then refl (part_then _ takes_first (tok_then a.takes (part_then _ b.takes (tok_then c.takes (part_then _ d.takes (tok_then e.takes (at_last _ f.takes)))))))))))))))
 
-  each_for-sound : (word left : Tok) (mods : List ModTree) (sort : TypeUseTree) → IsKey FOR word → IsOp LEFT_PAREN left → VariableModsFit mods → TypeFits sort → (toks : List Tok) (y : StmtTree × List Tok) → each_for p s word left mods sort toks ≡ Some y
-      → (whole mid behind : List Tok) → whole ≡ word ∷ left ∷ mid → mid ≡ mods_yield mods ++ behind → behind ≡ type_yield sort ++ toks → Read (GoodPart (suc m)) stmt_yield whole y.0 y.1
+  each_for-sound : (word left : Tok) (mods : List ModTree) (used_type : TypeUseTree) → IsKey FOR word → IsOp LEFT_PAREN left → VariableModsFit mods → TypeFits used_type → (toks : List Tok) (y : StmtTree × List Tok) → each_for p s word left mods used_type toks ≡ Some y
+      → (whole mid behind : List Tok) → whole ≡ word ∷ left ∷ mid → mid ≡ mods_yield mods ++ behind → behind ≡ type_yield used_type ++ toks → Read (GoodPart (suc m)) stmt_yield whole y.0 y.1
   unfolding whole_each
-  each_for-sound word left mods sort word_is left_is mods_fit sort_fits toks y h whole mid behind takes_words takes_mods takes_sort =
-      step_tok is_ident toks _ y (sym (each_for-whole p s word left mods sort toks) ∙ h) (λ id a k.
+  each_for-sound word left mods used_type word_is left_is mods_fit used_type_fits toks y h whole mid behind takes_words takes_mods takes_used_type =
+      step_tok is_ident toks _ y (sym (each_for-whole p s word left mods used_type toks) ∙ h) (λ id a k.
       step_tok (is_op COLON) id.1 _ y k (λ colon b l.
       step_part _ _ p.expr colon.1 _ y sound.expr l (λ over c n.
       step_tok (is_op RIGHT_PAREN) over.1 _ y n (λ right d o.
       step_part _ _ s.stmt right.1 _ y sounds.stmt o (λ body e same.
-      done (GoodPart (suc m)) stmt_yield whole (Each word left mods sort id.0 colon.0 over.0 right.0 body.0) body.1 y same
+      done (GoodPart (suc m)) stmt_yield whole (Each word left mods used_type id.0 colon.0 over.0 right.0 body.0) body.1 y same
       (record {
         fits = (
           record {
@@ -130,25 +130,25 @@ module _ (m : ℕ) (p : Parsers) (s : StmtParsers) (sound : AreSound m p) (sound
             colon_is = is_op-IsOp COLON colon.0 b.is;
             no_local = e.fits.no_local;
           },
-          sort_fits,
+          used_type_fits,
           c.fits.fits,
           e.fits.fits,
         );
         no_local = tt;
         shallow = one_more _ m (max_le _ _ m c.fits.shallow e.fits.shallow);
       })
-      (tok_then takes_words (tok_then refl (part_then _ takes_mods (part_then _ takes_sort (tok_then a.takes (tok_then b.takes (part_then _ c.takes (tok_then d.takes (at_last _ e.takes))))))))))))))
+      (tok_then takes_words (tok_then refl (part_then _ takes_mods (part_then _ takes_used_type (tok_then a.takes (tok_then b.takes (part_then _ c.takes (tok_then d.takes (at_last _ e.takes))))))))))))))
 
   local_for-sound : (word left : Tok) → IsKey FOR word → IsOp LEFT_PAREN left → (toks : List Tok) (y : StmtTree × List Tok) → local_for p s word left toks ≡ Some y → (whole : List Tok) → whole ≡ word ∷ left ∷ toks → Read (GoodPart (suc m)) stmt_yield whole y.0 y.1
   unfolding local_for
   local_for-sound word left word_is left_is toks y h whole takes_words =
       step_part _ _ variable_mods toks _ y variable_mods-sound h (λ mods a k.
-      step_part _ _ type_use mods.1 _ y type_use-sound k (λ sort b l.
-      either_way (begins_label sort.1) _ _ y
-      (λ e. each_for-sound word left mods.0 sort.0 word_is left_is a.fits b.fits sort.1 y e whole toks mods.1 takes_words a.takes b.takes)
-      (λ e. elim (of_bind (local_vars p mods.0 sort.0 sort.1) _ y e) [
+      step_part _ _ type_use mods.1 _ y type_use-sound k (λ used_type b l.
+      either_way (begins_label used_type.1) _ _ y
+      (λ e. each_for-sound word left mods.0 used_type.0 word_is left_is a.fits b.fits used_type.1 y e whole toks mods.1 takes_words a.takes b.takes)
+      (λ e. elim (of_bind (local_vars p mods.0 used_type.0 used_type.1) _ y e) [
         | bound vars found after ↦
-            let part = local_vars-sound m p sound mods.0 sort.0 a.fits b.fits sort.1 vars found toks mods.1 a.takes b.takes in
+            let part = local_vars-sound m p sound mods.0 used_type.0 a.fits b.fits used_type.1 vars found toks mods.1 a.takes b.takes in
             basic_for-sound word left (ForFirstTree.Local vars.0) word_is left_is (record { fits = part.fits.fits; shallow = part.fits.shallow }) vars.1 y after whole toks takes_words part.takes
       ]) l))
 
@@ -200,13 +200,13 @@ module _ (m : ℕ) (p : Parsers) (s : StmtParsers) (sound : AreSound m p) (sound
       step_part _ _ (many (group p s)) brace.1 _ y (many-sound (GoodGroup m) group_yield (group p s) group-sound) l (λ groups c n.
       step_tok (is_op RIGHT_BRACE) groups.1 _ y n (λ end d same.
       let good = groups-good m groups.0 c.fits in
-      done (GoodPart (suc m)) stmt_yield toks (Switch on.0.word on.0.left on.0.value on.0.right brace.0 (groups_tree groups.0) end.0) end.1 y same
+      done (GoodPart (suc m)) stmt_yield toks (Switch on.0.word on.0.left on.0.expression on.0.right brace.0 (groups_tree groups.0) end.0) end.1 y same
       (record {
         fits = (record { head = a.head; braces = (is_op-IsOp LEFT_BRACE brace.0 b.is, is_op-IsOp RIGHT_BRACE end.0 d.is) }, a.fits, good.fits);
         no_local = tt;
         shallow = one_more _ m (max_le _ _ m a.shallow good.shallow);
       })
-      (head_then _ _ on.0.value _ a.takes (tok_then b.takes (part_then (groups_yield (groups_tree groups.0)) (c.takes ∙ ap (λ front. front ++ groups.1) (groups_yield-tree groups.0)) (tok_last d.takes))))))))
+      (head_then _ _ on.0.expression _ a.takes (tok_then b.takes (part_then (groups_yield (groups_tree groups.0)) (c.takes ∙ ap (λ front. front ++ groups.1) (groups_yield-tree groups.0)) (tok_last d.takes))))))))
 
   -- ---- `try`
 
@@ -216,11 +216,11 @@ module _ (m : ℕ) (p : Parsers) (s : StmtParsers) (sound : AreSound m p) (sound
       step_tok (is_key CATCH) toks _ y (sym (catch_part-whole s toks) ∙ h) (λ word a k.
       step_tok (is_op LEFT_PAREN) word.1 _ y k (λ left b l.
       step_part _ _ (optional (token (is_key FINAL))) left.1 _ y (optional-sound (IsKey FINAL) tok_yield (token (is_key FINAL)) (token-sound (IsKey FINAL) (is_key FINAL) (is_key-IsKey FINAL))) l (λ fixed c n.
-      step_part _ _ name fixed.1 _ y name-sound n (λ sort d o.
-      step_tok is_ident sort.1 _ y o (λ id e q.
+      step_part _ _ name fixed.1 _ y name-sound n (λ used_type d o.
+      step_tok is_ident used_type.1 _ y o (λ id e q.
       step_tok (is_op RIGHT_PAREN) id.1 _ y q (λ right f r.
       step_part _ _ (block s) right.1 _ y (block-sound m s sounds) r (λ body g same.
-      done (GoodCatch m) catch_yield toks (Catch word.0 left.0 fixed.0 sort.0 id.0 right.0 body.0) body.1 y same
+      done (GoodCatch m) catch_yield toks (Catch word.0 left.0 fixed.0 used_type.0 id.0 right.0 body.0) body.1 y same
       (record {
         fits = (
           record {
@@ -233,7 +233,7 @@ module _ (m : ℕ) (p : Parsers) (s : StmtParsers) (sound : AreSound m p) (sound
         );
         shallow = g.fits.shallow;
       })
-      (tok_then a.takes (tok_then b.takes (part_then _ c.takes (part_then (name_yield sort.0) d.takes (tok_then e.takes (tok_then f.takes (at_last _ g.takes))))))))))))))
+      (tok_then a.takes (tok_then b.takes (part_then _ c.takes (part_then (name_yield used_type.0) d.takes (tok_then e.takes (tok_then f.takes (at_last _ g.takes))))))))))))))
 
   last-sound : IsSound (GoodLast m) last_yield (last s)
   unfolding last last_part

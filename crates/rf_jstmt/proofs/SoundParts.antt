@@ -86,10 +86,10 @@ pub record ReadsHead (room : ℕ) (key : Kw) (toks : List Tok) (found : Head) (r
   pub shallow : expr_depth found.value ≤ room
   pub takes : toks ≡ found.word ∷ found.left ∷ (expr_yield found.value ++ found.right ∷ rest)
 
-pub head_then : {toks mid more rest : List Tok} (word left : Tok) (value : ExprTree) (right : Tok) → toks ≡ word ∷ left ∷ (expr_yield value ++ right ∷ mid) → Takes mid more rest → Takes toks (word ∷ left ∷ (expr_yield value ++ right ∷ more)) rest
-head_then {mid = mid} word left value right h k =
+pub head_then : {toks mid more rest : List Tok} (word left : Tok) (expression : ExprTree) (right : Tok) → toks ≡ word ∷ left ∷ (expr_yield expression ++ right ∷ mid) → Takes mid more rest → Takes toks (word ∷ left ∷ (expr_yield expression ++ right ∷ more)) rest
+head_then {mid = mid} word left expression right h k =
     let inner : Takes (right ∷ mid) (right ∷ _) _ = tok_then refl k in
-    let behind : Takes (left ∷ (expr_yield value ++ right ∷ mid)) _ _ = tok_then refl (part_then (expr_yield value) refl inner) in
+    let behind : Takes (left ∷ (expr_yield expression ++ right ∷ mid)) _ _ = tok_then refl (part_then (expr_yield expression) refl inner) in
     tok_then h behind
 
 pub record GoodExprs (room : ℕ) (exprs : ExprsTree) : Type 0 where
@@ -107,16 +107,16 @@ module _ (m : ℕ) (p : Parsers) (sound : AreSound m p) where
   head-sound key toks y h =
       step_tok (is_key key) toks _ y h (λ word a k.
       step_tok (is_op LEFT_PAREN) word.1 _ y k (λ left b l.
-      step_part _ _ p.expr left.1 _ y sound.expr l (λ value c n.
-      step_tok (is_op RIGHT_PAREN) value.1 _ y n (λ right d same.
-      let all : ReadsHead m key toks (record { word = word.0; left = left.0; value = value.0; right = right.0 }) right.1 =
+      step_part _ _ p.expr left.1 _ y sound.expr l (λ expression c n.
+      step_tok (is_op RIGHT_PAREN) expression.1 _ y n (λ right d same.
+      let all : ReadsHead m key toks (record { word = word.0; left = left.0; expression = expression.0; right = right.0 }) right.1 =
       record {
         head = record { word_is = is_key-IsKey key word.0 a.is; parens = (is_op-IsOp LEFT_PAREN left.0 b.is, is_op-IsOp RIGHT_PAREN right.0 d.is) };
         fits = c.fits.fits;
         shallow = c.fits.shallow;
-        takes = a.takes ∙ ap (λ others. word.0 ∷ others) (b.takes ∙ ap (λ others. left.0 ∷ others) (c.takes ∙ ap (λ others. expr_yield value.0 ++ others) d.takes));
+        takes = a.takes ∙ ap (λ others. word.0 ∷ others) (b.takes ∙ ap (λ others. left.0 ∷ others) (c.takes ∙ ap (λ others. expr_yield expression.0 ++ others) d.takes));
       } in
-      by_some (λ z. ReadsHead m key toks z.0 z.1) (record { word = word.0; left = left.0; value = value.0; right = right.0 }, right.1) y same all))))
+      by_some (λ z. ReadsHead m key toks z.0 z.1) (record { word = word.0; left = left.0; expression = expression.0; right = right.0 }, right.1) y same all))))
 
   pub step_head : {B P : Type 0} (key : Kw) (toks : List Tok) (next : Head × List Tok → Option B) (y : B) → (head p key toks >>= next) ≡ Some y
       → ((x : Head × List Tok) → ReadsHead m key toks x.0 x.1 → next x ≡ Some y → P) → P
@@ -128,7 +128,7 @@ module _ (m : ℕ) (p : Parsers) (sound : AreSound m p) where
   unfolding optional_expr
   optional_expr-sound toks y =
       either_way (begins begins_expr toks) _ _ y
-      (λ h. step_part _ _ p.expr toks _ y sound.expr h (λ value a same. done (GoodOption m) (option_yield expr_yield) toks (Some value.0) value.1 y same (record { fits = a.fits.fits; shallow = a.fits.shallow }) (at_last _ a.takes)))
+      (λ h. step_part _ _ p.expr toks _ y sound.expr h (λ expression a same. done (GoodOption m) (option_yield expr_yield) toks (Some expression.0) expression.1 y same (record { fits = a.fits.fits; shallow = a.fits.shallow }) (at_last _ a.takes)))
       (λ same. done (GoodOption m) (option_yield expr_yield) toks None toks y same (record { fits = tt; shallow = omega arith }) (at_last [] refl))
 
   some_exprs-sound : IsSound (GoodExprs m) exprs_yield (some_exprs p)

@@ -17,7 +17,7 @@ use Rattle.rf_jstmt.specs.StmtParts.{StmtParsers}
 use Rattle.rf_jstmt.specs.StmtReads.{by_word, stmt, local_stmt, block_stmt, no_stmts, with_stmt_room, stmt_parsers}
 use Rattle.rf_jstmt.specs.VarReads.{local, begins_local, begins_label}
 use Rattle.rf_jstmt.proofs.SoundParts.{GoodStmt, GoodPart, AreSoundStmts}
-use Rattle.rf_jstmt.proofs.SoundForms.{block_alone-sound, empty-sound, labeled-sound, value-sound, if_stmt-sound, while_stmt-sound, do_stmt-sound, jump-sound, return_stmt-sound, throw_stmt-sound, sync_stmt-sound, assert_stmt-sound}
+use Rattle.rf_jstmt.proofs.SoundForms.{block_alone-sound, empty-sound, labeled-sound, expression_stmt-sound, if_stmt-sound, while_stmt-sound, do_stmt-sound, jump-sound, return_stmt-sound, throw_stmt-sound, sync_stmt-sound, assert_stmt-sound}
 use Rattle.rf_jstmt.proofs.SoundLists.{for_stmt-sound, switch_stmt-sound, try_stmt-sound}
 use Rattle.rf_jstmt.proofs.SoundVars.{local-sound}
 use Rattle.rf_jmods.proofs.Steps.{step_tok, step_part, part_then, tok_last, done, one_more}
@@ -45,7 +45,7 @@ module _ (m : ℕ) (p : Parsers) (s : StmtParsers) (sound : AreSound m p) (sound
   unfolding stmt
   stmt-sound toks y =
       either_way (begins begins_expr toks) _ _ y
-      (either_way (begins_label toks) _ _ y (labeled-sound m p s sound sounds toks y) (value-sound m p s sound sounds toks y))
+      (either_way (begins_label toks) _ _ y (labeled-sound m p s sound sounds toks y) (expression_stmt-sound m p s sound sounds toks y))
       (by_word-sound toks y)
 
   any_part : (toks : List Tok) (y : StmtTree × List Tok) → Read (GoodPart (suc m)) stmt_yield toks y.0 y.1 → Read (GoodStmt (suc m)) stmt_yield toks y.0 y.1

@@ -67,9 +67,9 @@ module _ (m : ℕ) (p : Parsers) (s : AreSound m p) where
   unfolding var
   var-sound toks y h =
       step_tok is_ident toks _ y h (λ id a k.
-      step_part _ _ dims id.1 _ y dims-sound k (λ ends b l.
-      step_part _ _ (optional (behind (is_op ASSIGN) p.init)) ends.1 _ y (optional-sound _ _ _ (behind-sound (GoodInit m) init_yield ASSIGN p.init s.init)) l (λ beginning c same.
-      done (GoodVar m) var_yield toks (record { id = id.0; dims = ends.0; init = beginning.0 }) beginning.1 y same
+      step_part _ _ dims id.1 _ y dims-sound k (λ bracket_pairs b l.
+      step_part _ _ (optional (behind (is_op ASSIGN) p.init)) bracket_pairs.1 _ y (optional-sound _ _ _ (behind-sound (GoodInit m) init_yield ASSIGN p.init s.init)) l (λ beginning c same.
+      done (GoodVar m) var_yield toks (record { id = id.0; dims = bracket_pairs.0; init = beginning.0 }) beginning.1 y same
       (record {
         fits = record { id_is = is_ident-IsIdent id.0 a.is; dims_fit = b.fits; beginning_fits = beginning_fits m beginning.0 c.fits };
         shallow = beginning_shallow m beginning.0 c.fits;
@@ -80,18 +80,18 @@ module _ (m : ℕ) (p : Parsers) (s : AreSound m p) where
   vars-sound = separated-sound (GoodVar m) var_yield COMMA (var p) var-sound
 
   -- behind modifiers and a type that fit
-  pub local_vars-sound : (found : List ModTree) (sort : TypeUseTree) → VariableModsFit found → TypeFits sort → (toks : List Tok) (y : LocalTree × List Tok) → local_vars p found sort toks ≡ Some y
-      → (whole behind : List Tok) → whole ≡ mods_yield found ++ behind → behind ≡ type_yield sort ++ toks → Read (GoodLocal m) local_yield whole y.0 y.1
+  pub local_vars-sound : (found : List ModTree) (used_type : TypeUseTree) → VariableModsFit found → TypeFits used_type → (toks : List Tok) (y : LocalTree × List Tok) → local_vars p found used_type toks ≡ Some y
+      → (whole behind : List Tok) → whole ≡ mods_yield found ++ behind → behind ≡ type_yield used_type ++ toks → Read (GoodLocal m) local_yield whole y.0 y.1
   unfolding local_vars
-  local_vars-sound found sort mods_fit sort_fits toks y h whole behind takes_mods takes_sort =
+  local_vars-sound found used_type mods_fit used_type_fits toks y h whole behind takes_mods takes_used_type =
       step_part _ _ (separated COMMA (var p)) toks _ y vars-sound h (λ vars a same.
-      done (GoodLocal m) local_yield whole (record { mods = found; sort = sort; vars = vars.0 }) vars.1 y same
-      (record { fits = record { mods_fit = mods_fit; sort_fits = sort_fits; vars_fit = vars-fit m vars.0 a.fits }; shallow = vars-shallow m vars.0 a.fits })
-      (part_then _ takes_mods (part_then _ takes_sort (at_last _ a.takes))))
+      done (GoodLocal m) local_yield whole (record { mods = found; used_type = used_type; vars = vars.0 }) vars.1 y same
+      (record { fits = record { mods_fit = mods_fit; used_type_fits = used_type_fits; vars_fit = vars-fit m vars.0 a.fits }; shallow = vars-shallow m vars.0 a.fits })
+      (part_then _ takes_mods (part_then _ takes_used_type (at_last _ a.takes))))
 
   pub local-sound : IsSound (GoodLocal m) local_yield (local p)
   unfolding local
   local-sound toks y h =
       step_part _ _ variable_mods toks _ y variable_mods-sound h (λ found a k.
-      step_part _ _ type_use found.1 _ y type_use-sound k (λ sort b l.
-      local_vars-sound found.0 sort.0 a.fits b.fits sort.1 y l toks found.1 a.takes b.takes))
+      step_part _ _ type_use found.1 _ y type_use-sound k (λ used_type b l.
+      local_vars-sound found.0 used_type.0 a.fits b.fits used_type.1 y l toks found.1 a.takes b.takes))

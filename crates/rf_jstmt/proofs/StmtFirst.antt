@@ -11,7 +11,7 @@ use Rattle.rf_jtree.specs.Kinds.{IsKey, is_key_of}
 use Rattle.rf_jtree.specs.NameFits.{ModFits, BaseFits, TypeFits}
 use Rattle.rf_jtree.specs.NameTrees.{ModTree, Word, Mark, Suppress, TypeBaseTree, Prim, Named, TypeUseTree, mod_yield, mods_yield, base_yield, dims_yield, type_yield, many_yield}
 use Rattle.rf_jtree.specs.StmtFits.{IsFinalOrAnnotation, VariableModsFit, LocalFits, StmtFits}
-use Rattle.rf_jtree.specs.StmtTrees.{LocalTree, local_yield, var_yield, StmtTree, Block, Empty, Label, Value, If, While, Do, For, Each, Switch, Jump, Return, Throw, Sync, Assert, Try, Braces, stmt_yield}
+use Rattle.rf_jtree.specs.StmtTrees.{LocalTree, local_yield, var_yield, StmtTree, Block, Empty, Label, Expression, If, While, Do, For, Each, Switch, Jump, Return, Throw, Sync, Assert, Try, Braces, stmt_yield}
 use Rattle.rf_jexpr.specs.Reads.{is_key, begins}
 use Rattle.rf_jexpr.specs.Stops.{begins_expr}
 use Rattle.rf_jexpr.proofs.First.{begins_first, expr_first-begins}
@@ -67,17 +67,17 @@ unfolding begins may_go_on is_key
 base_calm (Prim tok) rest fit = primitive_calm tok fit
 base_calm (Named found) rest fit = rw fit.0 refl
 
-declaration_calm : (mods : List ModTree) (sort : TypeUseTree) (rest : List Tok) → VariableModsFit mods → TypeFits sort → begins may_go_on (mods_yield mods ++ (type_yield sort ++ rest)) ≡ false
-declaration_calm [] sort rest fit sort_fits = subst (λ toks. begins may_go_on toks ≡ false) (sym (append_assoc (base_yield sort.base) (dims_yield sort.dims) rest)) (base_calm sort.base _ sort_fits.0)
-declaration_calm (one ∷ mods) sort rest fit sort_fits =
-    subst (λ toks. begins may_go_on toks ≡ false) (sym (append_assoc (mod_yield one) (mods_yield mods) (type_yield sort ++ rest))) (mod_calm one _ fit.fit.each.0 fit.each.0)
+declaration_calm : (mods : List ModTree) (used_type : TypeUseTree) (rest : List Tok) → VariableModsFit mods → TypeFits used_type → begins may_go_on (mods_yield mods ++ (type_yield used_type ++ rest)) ≡ false
+declaration_calm [] used_type rest fit used_type_fits = subst (λ toks. begins may_go_on toks ≡ false) (sym (append_assoc (base_yield used_type.base) (dims_yield used_type.dims) rest)) (base_calm used_type.base _ used_type_fits.0)
+declaration_calm (one ∷ mods) used_type rest fit used_type_fits =
+    subst (λ toks. begins may_go_on toks ≡ false) (sym (append_assoc (mod_yield one) (mods_yield mods) (type_yield used_type ++ rest))) (mod_calm one _ fit.fit.each.0 fit.each.0)
 
-pub local_tokens : (local : LocalTree) (rest : List Tok) → local_yield local ++ rest ≡ mods_yield local.mods ++ (type_yield local.sort ++ (many_yield var_yield local.vars ++ rest))
+pub local_tokens : (local : LocalTree) (rest : List Tok) → local_yield local ++ rest ≡ mods_yield local.mods ++ (type_yield local.used_type ++ (many_yield var_yield local.vars ++ rest))
 local_tokens local rest =
-    append_assoc (mods_yield local.mods) (type_yield local.sort ++ many_yield var_yield local.vars) rest ∙ ap (λ others. mods_yield local.mods ++ others) (append_assoc (type_yield local.sort) (many_yield var_yield local.vars) rest)
+    append_assoc (mods_yield local.mods) (type_yield local.used_type ++ many_yield var_yield local.vars) rest ∙ ap (λ others. mods_yield local.mods ++ others) (append_assoc (type_yield local.used_type) (many_yield var_yield local.vars) rest)
 
 local_calm : (local : LocalTree) (rest : List Tok) → LocalFits local → begins may_go_on (local_yield local ++ rest) ≡ false
-local_calm local rest fit = subst (λ toks. begins may_go_on toks ≡ false) (sym (local_tokens local rest)) (declaration_calm local.mods local.sort _ fit.mods_fit fit.sort_fits)
+local_calm local rest fit = subst (λ toks. begins may_go_on toks ≡ false) (sym (local_tokens local rest)) (declaration_calm local.mods local.used_type _ fit.mods_fit fit.used_type_fits)
 
 -- ---- statements
 
@@ -87,17 +87,17 @@ stmt_calm (Block (Braces left list right)) rest fit = rw fit.0.0 refl
 stmt_calm (Empty semi) rest fit = rw fit refl
 stmt_calm (StmtTree.Local local semi) rest fit = subst (λ toks. begins may_go_on toks ≡ false) (sym (append_assoc (local_yield local) (semi ∷ []) rest)) (local_calm local (semi ∷ rest) fit.0)
 stmt_calm (Label id colon body) rest fit = rw fit.0.id_is refl
-stmt_calm (Value value semi) rest fit =
-    subst (λ toks. begins may_go_on toks ≡ false) (sym (append_assoc (expr_yield value) (semi ∷ []) rest)) (begins_first may_go_on value (semi ∷ rest) ∙ expr_calm (expr_first value) (expr_first-begins value fit.1))
+stmt_calm (Expression expression semi) rest fit =
+    subst (λ toks. begins may_go_on toks ≡ false) (sym (append_assoc (expr_yield expression) (semi ∷ []) rest)) (begins_first may_go_on expression (semi ∷ rest) ∙ expr_calm (expr_first expression) (expr_first-begins expression fit.1))
 stmt_calm (If word left test right first other) rest fit = rw fit.0.head.word_is refl
 stmt_calm (While word left test right body) rest fit = rw fit.0.head.word_is refl
 stmt_calm (Do word body until left test right semi) rest fit = rw fit.0.word_is refl
 stmt_calm (For word left first semi1 test semi2 last right body) rest fit = rw fit.0.head.word_is refl
-stmt_calm (Each word left mods sort id colon over right body) rest fit = rw fit.0.head.word_is refl
+stmt_calm (Each word left mods used_type id colon over right body) rest fit = rw fit.0.head.word_is refl
 stmt_calm (Switch word left on right brace parts end) rest fit = rw fit.0.head.word_is refl
 stmt_calm (Jump word label semi) rest fit = elim fit.word_is [ inl one ↦ rw one refl | inr other ↦ rw other refl ]
-stmt_calm (Return word value semi) rest fit = rw fit.0.word_is refl
-stmt_calm (Throw word value semi) rest fit = rw fit.0.word_is refl
+stmt_calm (Return word expression semi) rest fit = rw fit.0.word_is refl
+stmt_calm (Throw word expression semi) rest fit = rw fit.0.word_is refl
 stmt_calm (Sync word left on right body) rest fit = rw fit.0.word_is refl
 stmt_calm (Assert word test message semi) rest fit = rw fit.0.word_is refl
 stmt_calm (Try word body parts last) rest fit = rw fit.0.word_is refl
@@ -106,5 +106,5 @@ stmt_calm (Try word body parts last) rest fit = rw fit.0.word_is refl
 pub stmt_some : (stmt : StmtTree) → 1 ≤ length (stmt_yield stmt)
 stmt_some (Block (Braces left list right)) = omega arith
 stmt_some (StmtTree.Local local semi) = omega (arith, length-append (local_yield local) (semi ∷ []))
-stmt_some (Value value semi) = omega (arith, length-append (expr_yield value) (semi ∷ []))
+stmt_some (Expression expression semi) = omega (arith, length-append (expr_yield expression) (semi ∷ []))
 stmt_some stmt = omega arith

@@ -11,9 +11,9 @@ use Rattle.rf_jstmt.specs.StmtTests.{is_statement_expr, are_more_statement_exprs
 
 pub is_statement_expr-Is : (expr : ExprTree) → IsTrue (is_statement_expr expr) → IsStatementExpr expr
 unfolding is_statement_expr
-is_statement_expr-Is (Assign left op value) h = tt
-is_statement_expr-Is (Unary op value) h = h
-is_statement_expr-Is (Postfix value op) h = tt
+is_statement_expr-Is (Assign left op expression) h = tt
+is_statement_expr-Is (Unary op expression) h = h
+is_statement_expr-Is (Postfix expression op) h = tt
 is_statement_expr-Is (Call on id args) h = tt
 is_statement_expr-Is (Super word dot id (SuperArgs args)) h = tt
 is_statement_expr-Is (New word name args) h = tt
@@ -21,9 +21,9 @@ is_statement_expr-Is expr h = absurd (cc)
 
 pub Is-is_statement_expr : (expr : ExprTree) → IsStatementExpr expr → IsTrue (is_statement_expr expr)
 unfolding is_statement_expr
-Is-is_statement_expr (Assign left op value) h = refl
-Is-is_statement_expr (Unary op value) h = h
-Is-is_statement_expr (Postfix value op) h = refl
+Is-is_statement_expr (Assign left op expression) h = refl
+Is-is_statement_expr (Unary op expression) h = h
+Is-is_statement_expr (Postfix expression op) h = refl
 Is-is_statement_expr (Call on id args) h = refl
 Is-is_statement_expr (Super word dot id (SuperArgs args)) h = refl
 Is-is_statement_expr (New word name args) h = refl

@@ -40,13 +40,13 @@ whole_basic p s word left first toks = do
   Some (For word left first semi1.0 test.0 semi2.0 last.0 right.0 body.0, body.1)
 
 unfoldable pub whole_each : Parsers → StmtParsers → Tok → Tok → List ModTree → TypeUseTree → Reads StmtTree
-whole_each p s word left mods sort toks = do
+whole_each p s word left mods used_type toks = do
   id ← token is_ident toks
   colon ← token (is_op COLON) id.1
   over ← p.expr colon.1
   right ← token (is_op RIGHT_PAREN) over.1
   body ← s.stmt right.1
-  Some (Each word left mods sort id.0 colon.0 over.0 right.0 body.0, body.1)
+  Some (Each word left mods used_type id.0 colon.0 over.0 right.0 body.0, body.1)
 
 pub basic_for-whole : (p : Parsers) (s : StmtParsers) (word left : Tok) (first : ForFirstTree) (toks : List Tok) → basic_for p s word left first toks ≡ whole_basic p s word left first toks
 unfolding basic_for for_head for_rest whole_basic and_then
@@ -57,9 +57,9 @@ basic_for-whole p s word left first toks =
     two_steps (statement_exprs p semi2.1) _ _ _ _ (λ last.
     two_steps (token (is_op RIGHT_PAREN) last.1) _ _ _ _ (λ right. refl)))))
 
-pub each_for-whole : (p : Parsers) (s : StmtParsers) (word left : Tok) (mods : List ModTree) (sort : TypeUseTree) (toks : List Tok) → each_for p s word left mods sort toks ≡ whole_each p s word left mods sort toks
+pub each_for-whole : (p : Parsers) (s : StmtParsers) (word left : Tok) (mods : List ModTree) (used_type : TypeUseTree) (toks : List Tok) → each_for p s word left mods used_type toks ≡ whole_each p s word left mods used_type toks
 unfolding each_for each_head each_rest whole_each and_then
-each_for-whole p s word left mods sort toks =
+each_for-whole p s word left mods used_type toks =
     two_steps (token is_ident toks) _ _ _ _ (λ id.
     two_steps (token (is_op COLON) id.1) _ _ _ _ (λ colon.
     two_steps (p.expr colon.1) _ _ _ _ (λ over.
@@ -70,11 +70,11 @@ whole_catch s toks = do
   word ← token (is_key CATCH) toks
   left ← token (is_op LEFT_PAREN) word.1
   fixed ← optional (token (is_key FINAL)) left.1
-  sort ← name fixed.1
-  id ← token is_ident sort.1
+  used_type ← name fixed.1
+  id ← token is_ident used_type.1
   right ← token (is_op RIGHT_PAREN) id.1
   body ← block s right.1
-  Some (Catch word.0 left.0 fixed.0 sort.0 id.0 right.0 body.0, body.1)
+  Some (Catch word.0 left.0 fixed.0 used_type.0 id.0 right.0 body.0, body.1)
 
 pub catch_part-whole : (s : StmtParsers) (toks : List Tok) → catch_part s toks ≡ whole_catch s toks
 unfolding catch_part catch_head whole_catch and_then
@@ -82,6 +82,6 @@ catch_part-whole s toks =
     one_step (token (is_key CATCH) toks) _ _ _ (λ word.
     one_step (token (is_op LEFT_PAREN) word.1) _ _ _ (λ left.
     one_step (optional (token (is_key FINAL)) left.1) _ _ _ (λ fixed.
-    one_step (name fixed.1) _ _ _ (λ sort.
-    one_step (token is_ident sort.1) _ _ _ (λ id.
+    one_step (name fixed.1) _ _ _ (λ used_type.
+    one_step (token is_ident used_type.1) _ _ _ (λ id.
     one_step (token (is_op RIGHT_PAREN) id.1) _ _ _ (λ right. refl))))))

@@ -28,13 +28,13 @@ catch_head_shown head = record {
   word = head.word;
   left = head.left;
   fixed = head.fixed;
-  sort = name_shown head.name;
+  used_type = name_shown head.name;
   id = head.id;
   right = head.right;
 }
 
 abbrev pub catch_tree : CatchHead → BlockTree → CatchTree
-catch_tree head body = t.Catch head.word head.left head.fixed head.sort head.id head.right body
+catch_tree head body = t.Catch head.word head.left head.fixed head.used_type head.id head.right body
 
 abbrev pub groups_found_depth : List GroupTree → ℕ
 groups_found_depth groups = groups_depth (groups_tree groups)

@@ -25,12 +25,12 @@ abbrev pub head_shown : Box HeadParts Global → Head
 head_shown head = record {
   word = head.value.word;
   left = head.value.left;
-  value = boxed_shown head.value.value;
+  expression = boxed_shown head.value.expression;
   right = head.value.right;
 }
 
 abbrev pub head_depth : Head → ℕ
-head_depth head = expr_depth head.value
+head_depth head = expr_depth head.expression
 
 -- what stands before the body of a `for`
 abbrev pub for_head_shown : Box ForHeadParts Global → ForHead
@@ -53,7 +53,7 @@ each_head_shown head = record {
   word = head.value.word;
   left = head.value.left;
   mods = mods_shown head.value.mods;
-  sort = type_shown head.value.sort;
+  used_type = type_shown head.value.used_type;
   id = head.value.id;
   colon = head.value.colon;
   over = boxed_shown head.value.over;

@@ -39,20 +39,20 @@ block s toks = do
 pub record Head : Type 0 where
   pub word : Tok
   pub left : Tok
-  pub value : ExprTree
+  pub expression : ExprTree
   pub right : Tok
 
 unfoldable pub head : Parsers → Kw → Reads Head
 head p key toks = do
   word ← token (is_key key) toks
   left ← token (is_op LEFT_PAREN) word.1
-  value ← p.expr left.1
-  right ← token (is_op RIGHT_PAREN) value.1
-  Some (record { word = word.0; left = left.0; value = value.0; right = right.0 }, right.1)
+  expression ← p.expr left.1
+  right ← token (is_op RIGHT_PAREN) expression.1
+  Some (record { word = word.0; left = left.0; expression = expression.0; right = right.0 }, right.1)
 
 -- an expression where one begins
 unfoldable pub optional_expr : Parsers → Reads (Option ExprTree)
-optional_expr p toks = if begins begins_expr toks then (p.expr toks >>= λ value. Some (Some value.0, value.1)) else Some (None, toks)
+optional_expr p toks = if begins begins_expr toks then (p.expr toks >>= λ expression. Some (Some expression.0, expression.1)) else Some (None, toks)
 
 -- expressions that stand as statements, where one begins (JLS 14.14.1)
 unfoldable pub some_exprs : Parsers → Reads ExprsTree
@@ -101,7 +101,7 @@ pub record EachHead : Type 0 where
   pub word : Tok
   pub left : Tok
   pub mods : List ModTree
-  pub sort : TypeUseTree
+  pub used_type : TypeUseTree
   pub id : Tok
   pub colon : Tok
   pub over : ExprTree
@@ -123,16 +123,16 @@ each_rest p toks = do
   Some (record { id = id.0; colon = colon.0; over = over.0; right = right.0 }, right.1)
 
 unfoldable pub each_head : Parsers → Tok → Tok → List ModTree → TypeUseTree → Reads EachHead
-each_head p word left mods sort toks = do
+each_head p word left mods used_type toks = do
   rest ← each_rest p toks
-  Some (record { word = word; left = left; mods = mods; sort = sort; id = rest.0.id; colon = rest.0.colon; over = rest.0.over; right = rest.0.right }, rest.1)
+  Some (record { word = word; left = left; mods = mods; used_type = used_type; id = rest.0.id; colon = rest.0.colon; over = rest.0.over; right = rest.0.right }, rest.1)
 
 -- a catch clause up to its block (JLS 14.20)
 pub record CatchHead : Type 0 where
   pub word : Tok
   pub left : Tok
   pub fixed : Option Tok
-  pub sort : NameTree
+  pub used_type : NameTree
   pub id : Tok
   pub right : Tok
 
@@ -141,7 +141,7 @@ catch_head toks = do
   word ← token (is_key CATCH) toks
   left ← token (is_op LEFT_PAREN) word.1
   fixed ← optional (token (is_key FINAL)) left.1
-  sort ← name fixed.1
-  id ← token is_ident sort.1
+  used_type ← name fixed.1
+  id ← token is_ident used_type.1
   right ← token (is_op RIGHT_PAREN) id.1
-  Some (record { word = word.0; left = left.0; fixed = fixed.0; sort = sort.0; id = id.0; right = right.0 }, right.1)
+  Some (record { word = word.0; left = left.0; fixed = fixed.0; used_type = used_type.0; id = id.0; right = right.0 }, right.1)

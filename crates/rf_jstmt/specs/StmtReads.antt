@@ -6,7 +6,7 @@ use Rattle.rf_jtree.specs.declared.keyword_names.TheConstants.{ASSERT, BREAK, CA
 use Rattle.rf_jtree.specs.NameTrees.{ModTree, TypeUseTree}
 use Rattle.rf_jtree.specs.StmtFits.{ends_open}
 use Rattle.rf_jtree.specs.StmtShown.{groups_tree, catches_tree}
-use Rattle.rf_jtree.specs.StmtTrees.{ForFirstTree, StmtTree, Block, Empty, Label, Value, If, While, Do, For, Each, Switch, Jump, Return, Throw, Sync, Assert, Try}
+use Rattle.rf_jtree.specs.StmtTrees.{ForFirstTree, StmtTree, Block, Empty, Label, Expression, If, While, Do, For, Each, Switch, Jump, Return, Throw, Sync, Assert, Try}
 use Rattle.rf_jtree.specs.StmtTrees.{OtherTree, NoOther, Other, GroupTree, Group, CatchTree, Catch, CatchesTree, NoCatches, Catches, LastTree, NoLast, Last}
 use Rattle.rf_jexpr.specs.Descent.{parsers}
 use Rattle.rf_jexpr.specs.NameReads.{type_use}
@@ -38,11 +38,11 @@ labeled s toks = do
   Some (Label id.0 colon.0 body.0, body.1)
 
 -- an expression and `;` (JLS 14.8)
-unfoldable pub value : Parsers → Reads StmtTree
-value p toks = do
+unfoldable pub expression_stmt : Parsers → Reads StmtTree
+expression_stmt p toks = do
   found ← p.expr toks
   semi ← when (is_statement_expr found.0) (token (is_op SEMICOLON) found.1)
-  Some (Value found.0 semi.0, semi.1)
+  Some (Expression found.0 semi.0, semi.1)
 
 -- ---- with one
 
@@ -62,14 +62,14 @@ if_stmt p s toks = do
   test ← head p IF toks
   first ← s.stmt test.1
   last ← other s first.0 first.1
-  Some (If test.0.word test.0.left test.0.value test.0.right first.0 last.0, last.1)
+  Some (If test.0.word test.0.left test.0.expression test.0.right first.0 last.0, last.1)
 
 -- `while (..) body` (JLS 14.12)
 unfoldable pub while_stmt : Parsers → StmtParsers → Reads StmtTree
 while_stmt p s toks = do
   test ← head p WHILE toks
   body ← s.stmt test.1
-  Some (While test.0.word test.0.left test.0.value test.0.right body.0, body.1)
+  Some (While test.0.word test.0.left test.0.expression test.0.right body.0, body.1)
 
 -- `do body while (..);` (JLS 14.13)
 unfoldable pub do_stmt : Parsers → StmtParsers → Reads StmtTree
@@ -78,7 +78,7 @@ do_stmt p s toks = do
   body ← s.stmt word.1
   test ← head p WHILE body.1
   semi ← token (is_op SEMICOLON) test.1
-  Some (Do word.0 body.0 test.0.word test.0.left test.0.value test.0.right semi.0, semi.1)
+  Some (Do word.0 body.0 test.0.word test.0.left test.0.expression test.0.right semi.0, semi.1)
 
 -- `; test; last) body` of a `for` (JLS 14.14.1)
 unfoldable pub basic_for : Parsers → StmtParsers → Tok → Tok → ForFirstTree → Reads StmtTree
@@ -89,18 +89,18 @@ basic_for p s word left first toks = do
 
 -- `x : over) body` of a `for` (JLS 14.14.2)
 unfoldable pub each_for : Parsers → StmtParsers → Tok → Tok → List ModTree → TypeUseTree → Reads StmtTree
-each_for p s word left mods sort toks = do
-  head ← each_head p word left mods sort toks
+each_for p s word left mods used_type toks = do
+  head ← each_head p word left mods used_type toks
   body ← s.stmt head.1
-  Some (Each head.0.word head.0.left head.0.mods head.0.sort head.0.id head.0.colon head.0.over head.0.right body.0, body.1)
+  Some (Each head.0.word head.0.left head.0.mods head.0.used_type head.0.id head.0.colon head.0.over head.0.right body.0, body.1)
 
 -- a `for` with a declaration: of one variable before `:`, or of any number
 unfoldable pub local_for : Parsers → StmtParsers → Tok → Tok → Reads StmtTree
 local_for p s word left toks = do
   mods ← variable_mods toks
-  sort ← type_use mods.1
-  if begins_label sort.1 then each_for p s word left mods.0 sort.0 sort.1
-      else (local_vars p mods.0 sort.0 sort.1 >>= λ vars. basic_for p s word left (ForFirstTree.Local vars.0) vars.1)
+  used_type ← type_use mods.1
+  if begins_label used_type.1 then each_for p s word left mods.0 used_type.0 used_type.1
+      else (local_vars p mods.0 used_type.0 used_type.1 >>= λ vars. basic_for p s word left (ForFirstTree.Local vars.0) vars.1)
 
 unfoldable pub for_stmt : Parsers → StmtParsers → Reads StmtTree
 for_stmt p s toks = do
@@ -135,7 +135,7 @@ switch_stmt p s toks = do
   brace ← token (is_op LEFT_BRACE) on.1
   groups ← many (group p s) brace.1
   end ← token (is_op RIGHT_BRACE) groups.1
-  Some (Switch on.0.word on.0.left on.0.value on.0.right brace.0 (groups_tree groups.0) end.0, end.1)
+  Some (Switch on.0.word on.0.left on.0.expression on.0.right brace.0 (groups_tree groups.0) end.0, end.1)
 
 -- `break` or `continue`, with a label or without (JLS 14.15, 14.16)
 unfoldable pub jumps : Tok → Bool
@@ -169,7 +169,7 @@ unfoldable pub sync_stmt : Parsers → StmtParsers → Reads StmtTree
 sync_stmt p s toks = do
   on ← head p SYNCHRONIZED toks
   body ← block s on.1
-  Some (Sync on.0.word on.0.left on.0.value on.0.right body.0, body.1)
+  Some (Sync on.0.word on.0.left on.0.expression on.0.right body.0, body.1)
 
 -- `assert`, with a second expression or without (JLS 14.10)
 unfoldable pub assert_stmt : Parsers → Reads StmtTree
@@ -185,7 +185,7 @@ unfoldable pub catch_part : StmtParsers → Reads CatchTree
 catch_part s toks = do
   head ← catch_head toks
   body ← block s head.1
-  Some (Catch head.0.word head.0.left head.0.fixed head.0.sort head.0.id head.0.right body.0, body.1)
+  Some (Catch head.0.word head.0.left head.0.fixed head.0.used_type head.0.id head.0.right body.0, body.1)
 
 -- `finally` and its block, where it stands (JLS 14.20.2)
 unfoldable pub last_part : StmtParsers → Reads LastTree
@@ -230,7 +230,7 @@ by_word p s toks =
     else jump toks)))))))))))
 
 unfoldable pub stmt : Parsers → StmtParsers → Reads StmtTree
-stmt p s toks = if begins begins_expr toks then (if begins_label toks then labeled s toks else value p toks) else by_word p s toks
+stmt p s toks = if begins begins_expr toks then (if begins_label toks then labeled s toks else expression_stmt p toks) else by_word p s toks
 
 -- a local declaration and `;` (JLS 14.4)
 unfoldable pub local_stmt : Parsers → Reads StmtTree

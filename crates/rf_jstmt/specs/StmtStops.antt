@@ -18,7 +18,7 @@ abbrev mutual
   goes_on (If word left test right then other) tok = other_goes_on other (goes_on then tok) tok
   goes_on (While word left test right body) tok = goes_on body tok
   goes_on (For word left first semi1 test semi2 last right body) tok = goes_on body tok
-  goes_on (Each word left mods sort id colon over right body) tok = goes_on body tok
+  goes_on (Each word left mods used_type id colon over right body) tok = goes_on body tok
   goes_on (Try word body parts last) tok = last_goes_on last tok
   goes_on stmt tok = false
 

@@ -7,9 +7,9 @@ use Rattle.rf_jtree.specs.Kinds.{is_op_of}
 -- ---- expressions that stand as statements (JLS 14.8, 14.14.1)
 
 unfoldable pub is_statement_expr : ExprTree → Bool
-is_statement_expr (Assign left op value) = true
-is_statement_expr (Unary op value) = is_op_of SUFFIXES op
-is_statement_expr (Postfix value op) = true
+is_statement_expr (Assign left op expression) = true
+is_statement_expr (Unary op expression) = is_op_of SUFFIXES op
+is_statement_expr (Postfix expression op) = true
 is_statement_expr (Call on id args) = true
 is_statement_expr (Super word dot id (SuperArgs args)) = true
 is_statement_expr (New word name args) = true

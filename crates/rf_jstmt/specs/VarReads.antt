@@ -17,20 +17,20 @@ use Rattle.rf_jmods.specs.ModReads.{variable_mods}
 unfoldable pub var : Parsers → Reads VarTree
 var p toks = do
   id ← token is_ident toks
-  ends ← dims id.1
-  beginning ← optional (behind (is_op ASSIGN) p.init) ends.1
-  Some (record { id = id.0; dims = ends.0; init = beginning.0 }, beginning.1)
+  bracket_pairs ← dims id.1
+  beginning ← optional (behind (is_op ASSIGN) p.init) bracket_pairs.1
+  Some (record { id = id.0; dims = bracket_pairs.0; init = beginning.0 }, beginning.1)
 
 -- the variables of a local declaration, behind its modifiers and its type
 unfoldable pub local_vars : Parsers → List ModTree → TypeUseTree → Reads LocalTree
-local_vars p found sort toks = separated COMMA (var p) toks >>= λ vars. Some (record { mods = found; sort = sort; vars = vars.0 }, vars.1)
+local_vars p found used_type toks = separated COMMA (var p) toks >>= λ vars. Some (record { mods = found; used_type = used_type; vars = vars.0 }, vars.1)
 
 -- a local declaration, without its `;` (JLS 14.4)
 unfoldable pub local : Parsers → Reads LocalTree
 local p toks = do
   found ← variable_mods toks
-  sort ← type_use found.1
-  local_vars p found.0 sort.0 sort.1
+  used_type ← type_use found.1
+  local_vars p found.0 used_type.0 used_type.1
 
 -- A declaration begins with `final`, an annotation or a primitive type, or with a type and a name behind it.
 unfoldable pub marks_local : Tok → Bool
@@ -38,7 +38,7 @@ marks_local tok = is_key FINAL tok || (is_op AT tok || is_key_of PRIMITIVES tok)
 
 unfoldable pub ends_before : (Tok → Bool) → Option (TypeUseTree × List Tok) → Bool
 ends_before test None = false
-ends_before test (Some sort) = begins test sort.1
+ends_before test (Some used_type) = begins test used_type.1
 
 unfoldable pub begins_local : List Tok → Bool
 begins_local toks = begins marks_local toks || ends_before is_ident (type_use toks)

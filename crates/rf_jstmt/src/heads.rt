@@ -32,18 +32,18 @@ pub(crate) fn head_at(
 {
     let word = take(alloc, t, at, Want::Key(key))?;
     let left = take(alloc, t, word.end, Want::Op(LEFT_PAREN))?;
-    let value = boxed_expr(alloc, t, left.end, room)?;
-    let right = take(alloc, t, value.end, Want::Op(RIGHT_PAREN))?;
+    let expression = boxed_expr(alloc, t, left.end, room)?;
+    let right = take(alloc, t, expression.end, Want::Op(RIGHT_PAREN))?;
     let head = Head {
         word: word.item,
         left: left.item,
-        value: value.tree,
+        expression: expression.tree,
         right: right.item,
     };
     Ok(Found {
         tree: put(alloc, head)?,
         end: right.end,
-        depth: value.depth,
+        depth: expression.depth,
     })
 }
 
@@ -80,11 +80,11 @@ pub(crate) fn optional_expr(
     if !begins_expr_at(t, at) {
         return Ok(Found::left_out(at));
     }
-    let value = boxed_expr(alloc, t, at, room)?;
+    let expression = boxed_expr(alloc, t, at, room)?;
     Ok(Found {
-        tree: Some(value.tree),
-        end: value.end,
-        depth: value.depth,
+        tree: Some(expression.tree),
+        end: expression.end,
+        depth: expression.depth,
     })
 }
 

@@ -26,16 +26,16 @@ pub(crate) fn local_vars(
     at: usize,
     room: u32,
     mods: List<Mod>,
-    sort: TypeUse,
+    used_type: TypeUse,
 ) -> Result<Found<Local>, ParseErr>
     ensures { GivesTree local_shown local_depth room t.now at result
-        (local_vars (parsers room) (mods_shown mods) (type_shown sort) (drop at t.now)) }
+        (local_vars (parsers room) (mods_shown mods) (type_shown used_type) (drop at t.now)) }
 {
     let vars = vars(alloc, t, at, room)?;
     Ok(Found {
         tree: Local {
             mods,
-            sort,
+            used_type,
             vars: vars.tree,
         },
         end: vars.end,
@@ -56,8 +56,8 @@ pub(crate) fn local(
         (local (parsers room) (drop at t.now)) }
 {
     let mods = variable_mods(alloc, t, at)?;
-    let sort = type_use(alloc, t, mods.end)?;
-    local_vars(alloc, t, sort.end, room, mods.item, sort.item)
+    let used_type = type_use(alloc, t, mods.end)?;
+    local_vars(alloc, t, used_type.end, room, mods.item, used_type.item)
 }
 
 /// Whether an identifier and `:` stand at this place (JLS 14.7, 14.14.2).

@@ -88,11 +88,11 @@ fn for_rest(alloc: Global, t: &[Tok], at: usize, room: u32) -> Result<Found<ForR
     let semi2 = pair(take(alloc, t, test.end, Want::Op(SEMICOLON)), test.tree)?;
     let last = pair_found(statement_exprs(alloc, t, semi2.end, room), semi2.item)?;
     let right = pair(take(alloc, t, last.end, Want::Op(RIGHT_PAREN)), last.tree)?;
-    let ((((first, value), second), values), end) = right.item;
+    let ((((first, expression), second), values), end) = right.item;
     Ok(Found {
         tree: ForRest {
             semi1: first,
-            test: value,
+            test: expression,
             semi2: second,
             last: values,
             right: end,
@@ -180,12 +180,12 @@ fn each_rest(alloc: Global, t: &[Tok], at: usize, room: u32) -> Result<Found<Eac
     let colon = pair(take(alloc, t, id.end, Want::Op(COLON)), id.item)?;
     let over = pair_found(boxed_expr(alloc, t, colon.end, room), colon.item)?;
     let right = pair(take(alloc, t, over.end, Want::Op(RIGHT_PAREN)), over.tree)?;
-    let (((name, mark), value), end) = right.item;
+    let (((name, mark), expression), end) = right.item;
     Ok(Found {
         tree: EachRest {
             id: name,
             colon: mark,
-            over: value,
+            over: expression,
             right: end,
         },
         end: right.end,
@@ -203,17 +203,18 @@ fn each_head(
     word: Tok,
     left: Tok,
     mods: List<Mod>,
-    sort: TypeUse,
+    used_type: TypeUse,
 ) -> Result<Found<Box<EachHead>>, ParseErr>
     ensures { GivesTree each_head_shown each_head_depth room t.now at result
-        (each_head (parsers room) word left (mods_shown mods) (type_shown sort) (drop at t.now)) }
+        (each_head (parsers room) word left (mods_shown mods) (type_shown used_type)
+        (drop at t.now)) }
 {
     let rest = each_rest(alloc, t, at, room)?;
     let head = EachHead {
         word,
         left,
         mods,
-        sort,
+        used_type,
         id: rest.tree.id,
         colon: rest.tree.colon,
         over: rest.tree.over,
@@ -237,12 +238,12 @@ fn each_for(
     word: Tok,
     left: Tok,
     mods: List<Mod>,
-    sort: TypeUse,
+    used_type: TypeUse,
 ) -> Result<Found<Box<Stmt>>, ParseErr>
     ensures { GivesForm t.now at room result (λ p s. each_for p s word left (mods_shown mods)
-        (type_shown sort)) }
+        (type_shown used_type)) }
 {
-    let head = each_head(alloc, t, at, room, word, left, mods, sort)?;
+    let head = each_head(alloc, t, at, room, word, left, mods, used_type)?;
     let body = stmt(alloc, t, head.end, room)?;
     let tree = each_of(alloc, head.tree, body.tree)?;
     Ok(Found {
@@ -267,11 +268,20 @@ fn local_for(
     ensures { GivesForm t.now at room result (λ p s. local_for p s word left) }
 {
     let mods = variable_mods(alloc, t, at)?;
-    let sort = type_use(alloc, t, mods.end)?;
-    if begins_label_at(t, sort.end) {
-        return each_for(alloc, t, sort.end, room, word, left, mods.item, sort.item);
+    let used_type = type_use(alloc, t, mods.end)?;
+    if begins_label_at(t, used_type.end) {
+        return each_for(
+            alloc,
+            t,
+            used_type.end,
+            room,
+            word,
+            left,
+            mods.item,
+            used_type.item,
+        );
     }
-    let local = local_vars(alloc, t, sort.end, room, mods.item, sort.item)?;
+    let local = local_vars(alloc, t, used_type.end, room, mods.item, used_type.item)?;
     let first = Found {
         tree: ForFirst::Local(local.tree),
         end: local.end,

@@ -6,14 +6,14 @@ ghost use Rattle.rf_jexpr.specs.Gives.{Gives, GivesTree, IsFound};
 ghost use Rattle.rf_jexpr.specs.Reads.{is_op, token, optional, behind};
 ghost use Rattle.rf_jmake.specs.StmtMade.{boxed_message_shown};
 ghost use Rattle.rf_jstmt.specs.StmtMade.{message_depth};
-ghost use Rattle.rf_jstmt.specs.StmtReads.{empty, value, jumps, jump, return_stmt, throw_stmt, assert_stmt, local_stmt};
+ghost use Rattle.rf_jstmt.specs.StmtReads.{empty, expression_stmt, jumps, jump, return_stmt, throw_stmt, assert_stmt, local_stmt};
 ghost use Rattle.rf_jstmt.specs.StmtGives.{GivesForm};
 
 use crate::heads::{is_statement, optional_expr};
 use crate::locals::local;
 use rf_jexpr::{Found, ParseErr, Taken, Want, attempt, boxed_expr, deeper, is_at, take, take_if};
 use rf_jmake::simple_stmts::{
-    assert_of, empty_of, jump_of, local_of, return_of, throw_of, value_of,
+    assert_of, empty_of, expression_of, jump_of, local_of, return_of, throw_of,
 };
 use rf_jtree::keyword_names::{ASSERT, BREAK, CONTINUE, RETURN, THROW};
 use rf_jtree::operator_names::{COLON, SEMICOLON};
@@ -43,21 +43,21 @@ pub(crate) fn empty(
 }
 
 /// An expression and `;` (JLS 14.8).
-#[tactic(auto, unfolding(crate::specs::StmtReads::value, rf_jexpr::specs::Reads::and_then, rf_jexpr::specs::Reads::when))]
-pub(crate) fn value(
+#[tactic(auto, unfolding(crate::specs::StmtReads::expression_stmt, rf_jexpr::specs::Reads::and_then, rf_jexpr::specs::Reads::when))]
+pub(crate) fn expression_stmt(
     alloc: Global,
     t: &[Tok],
     at: usize,
     room: u32,
 ) -> Result<Found<Box<Stmt>>, ParseErr>
-    ensures { GivesForm t.now at room result (λ p s. value p) }
+    ensures { GivesForm t.now at room result (λ p s. expression_stmt p) }
 {
     let found = boxed_expr(alloc, t, at, room)?;
     if !is_statement(&found.tree) {
         return Err(ParseErr::NoTree);
     }
     let semi = take(alloc, t, found.end, Want::Op(SEMICOLON))?;
-    let tree = value_of(alloc, found.tree, semi.item)?;
+    let tree = expression_of(alloc, found.tree, semi.item)?;
     Ok(Found {
         tree,
         end: semi.end,
@@ -107,13 +107,13 @@ pub(crate) fn return_stmt(
     ensures { GivesForm t.now at room result (λ p s. return_stmt p) }
 {
     let word = take(alloc, t, at, Want::Key(RETURN))?;
-    let value = optional_expr(alloc, t, word.end, room)?;
-    let semi = take(alloc, t, value.end, Want::Op(SEMICOLON))?;
-    let tree = return_of(alloc, word.item, value.tree, semi.item)?;
+    let expression = optional_expr(alloc, t, word.end, room)?;
+    let semi = take(alloc, t, expression.end, Want::Op(SEMICOLON))?;
+    let tree = return_of(alloc, word.item, expression.tree, semi.item)?;
     Ok(Found {
         tree,
         end: semi.end,
-        depth: value.depth + 1,
+        depth: expression.depth + 1,
     })
 }
 
@@ -128,13 +128,13 @@ pub(crate) fn throw_stmt(
     ensures { GivesForm t.now at room result (λ p s. throw_stmt p) }
 {
     let word = take(alloc, t, at, Want::Key(THROW))?;
-    let value = boxed_expr(alloc, t, word.end, room)?;
-    let semi = take(alloc, t, value.end, Want::Op(SEMICOLON))?;
-    let tree = throw_of(alloc, word.item, value.tree, semi.item)?;
+    let expression = boxed_expr(alloc, t, word.end, room)?;
+    let semi = take(alloc, t, expression.end, Want::Op(SEMICOLON))?;
+    let tree = throw_of(alloc, word.item, expression.tree, semi.item)?;
     Ok(Found {
         tree,
         end: semi.end,
-        depth: value.depth + 1,
+        depth: expression.depth + 1,
     })
 }
 
@@ -150,11 +150,11 @@ fn message(
         (behind (is_op COLON) (parsers room).expr (drop at t.now)) }
 {
     let colon = take(alloc, t, at, Want::Op(COLON))?;
-    let value = boxed_expr(alloc, t, colon.end, room)?;
+    let expression = boxed_expr(alloc, t, colon.end, room)?;
     Ok(Found {
-        tree: (colon.item, value.tree),
-        end: value.end,
-        depth: value.depth,
+        tree: (colon.item, expression.tree),
+        end: expression.end,
+        depth: expression.depth,
     })
 }
 

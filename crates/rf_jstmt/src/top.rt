@@ -10,7 +10,9 @@ use crate::branches::{if_stmt, labeled, switch_stmt};
 use crate::heads::begins_expr_at;
 use crate::locals::{begins_label_at, begins_local};
 use crate::loops::{do_stmt, for_stmt, while_stmt};
-use crate::simple::{assert_stmt, empty, jump, local_stmt, return_stmt, throw_stmt, value};
+use crate::simple::{
+    assert_stmt, empty, expression_stmt, jump, local_stmt, return_stmt, throw_stmt,
+};
 use crate::tries::{sync_stmt, try_stmt};
 use rf_jexpr::{Found, ParseErr, Want, is_at};
 use rf_jtree::keyword_names::{
@@ -77,7 +79,7 @@ fn any_stmt(alloc: Global, t: &[Tok], at: usize, room: u32) -> Result<Found<Box<
     if begins_label_at(t, at) {
         return labeled(alloc, t, at, room);
     }
-    value(alloc, t, at, room)
+    expression_stmt(alloc, t, at, room)
 }
 
 /// A statement that is no local declaration, no deeper than the room (JLS 14.5).

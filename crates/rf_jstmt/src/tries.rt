@@ -54,8 +54,8 @@ fn catch_head(alloc: Global, t: &[Tok], at: usize) -> Result<Taken<CatchHead>, P
     let word = take(alloc, t, at, Want::Key(CATCH))?;
     let left = pair(take(alloc, t, word.end, Want::Op(LEFT_PAREN)), word.item)?;
     let fixed = take_if(alloc, t, left.end, Want::Key(FINAL))?;
-    let sort = pair(name(alloc, t, fixed.end), (left.item, fixed.item))?;
-    let id = pair(take(alloc, t, sort.end, Want::Ident), sort.item)?;
+    let used_type = pair(name(alloc, t, fixed.end), (left.item, fixed.item))?;
+    let id = pair(take(alloc, t, used_type.end, Want::Ident), used_type.item)?;
     let right = pair(take(alloc, t, id.end, Want::Op(RIGHT_PAREN)), id.item)?;
     let (((((first, open), mark), found), variable), close) = right.item;
     Ok(Taken {

@@ -28,11 +28,11 @@ fn beginning(
         (behind (is_op ASSIGN) (parsers room).init (drop at t.now)) }
 {
     let sign = take(alloc, t, at, Want::Op(ASSIGN))?;
-    let value = init(alloc, t, sign.end, room)?;
+    let expression = init(alloc, t, sign.end, room)?;
     Ok(Found {
-        tree: (sign.item, value.tree),
-        end: value.end,
-        depth: value.depth,
+        tree: (sign.item, expression.tree),
+        end: expression.end,
+        depth: expression.depth,
     })
 }
 
@@ -68,10 +68,10 @@ fn var_of(id: Tok, dims: Dims, beginning: Option<(Tok, Box<Init>)>) -> Var
             dims,
             init: None,
         },
-        Some((sign, value)) => Var {
+        Some((sign, expression)) => Var {
             id,
             dims,
-            init: Some((sign, Box::into_inner(value))),
+            init: Some((sign, Box::into_inner(expression))),
         },
     }
 }
@@ -84,10 +84,10 @@ pub(crate) fn var(alloc: Global, t: &[Tok], at: usize, room: u32) -> Result<Foun
     ensures forth { IfOk result (λ x. at < x.end) }
 {
     let id = take(alloc, t, at, Want::Ident)?;
-    let ends = dims(alloc, t, id.end)?;
-    let beginning = some_beginning(alloc, t, ends.end, room)?;
+    let bracket_pairs = dims(alloc, t, id.end)?;
+    let beginning = some_beginning(alloc, t, bracket_pairs.end, room)?;
     Ok(Found {
-        tree: var_of(id.item, ends.item, beginning.tree),
+        tree: var_of(id.item, bracket_pairs.item, beginning.tree),
         end: beginning.end,
         depth: beginning.depth,
     })

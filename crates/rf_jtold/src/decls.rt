@@ -93,7 +93,7 @@ fn tell_decl(text: &mut TreeText, decl: &TypeDecl) {
 
 fn tell_param(text: &mut TreeText, param: &Param) {
     tell_mods(text, &param.mods);
-    text.sort(&param.sort);
+    text.type_use(&param.used_type);
     text.tok(&param.id);
     text.dims(&param.dims);
 }
@@ -141,7 +141,7 @@ fn tell_call(text: &mut TreeText, call: &Option<CtorCall>) {
 fn tell_ret(text: &mut TreeText, ret: &Ret) {
     match ret {
         Ret::Void(word) => text.tok(word),
-        Ret::Value(sort) => text.sort(sort),
+        Ret::Typed(used_type) => text.type_use(used_type),
     }
 }
 
@@ -191,12 +191,12 @@ fn tell_member(text: &mut TreeText, member: &Member) {
         }
         Member::Field {
             mods,
-            sort,
+            used_type,
             vars,
             semi,
         } => {
             tell_mods(text, mods);
-            text.sort(sort);
+            text.type_use(used_type);
             tell_vars(text, vars);
             text.tok(semi);
         }

@@ -46,23 +46,23 @@ pub(crate) fn tell_bare(text: &mut TreeText, expr: &Expr) {
             text.tok(colon);
             tell(text, other)
         }
-        Expr::Instance(value, word, sort) => {
-            tell(text, value);
+        Expr::Instance(operand, word, used_type) => {
+            tell(text, operand);
             text.tok(word);
-            text.sort(sort);
+            text.type_use(used_type);
         }
-        Expr::Unary(op, value) => {
+        Expr::Unary(op, operand) => {
             text.tok(op);
-            tell(text, value)
+            tell(text, operand)
         }
-        Expr::Cast(left, sort, right, value) => {
+        Expr::Cast(left, used_type, right, operand) => {
             text.tok(left);
-            text.sort(sort);
+            text.type_use(used_type);
             text.tok(right);
-            tell(text, value)
+            tell(text, operand)
         }
-        Expr::Postfix(value, op) => {
-            tell(text, value);
+        Expr::Postfix(operand, op) => {
+            tell(text, operand);
             text.tok(op);
         }
         _ => tell_primary(text, expr),
@@ -72,9 +72,9 @@ pub(crate) fn tell_bare(text: &mut TreeText, expr: &Expr) {
 #[cycle(tell)]
 fn tell_primary(text: &mut TreeText, expr: &Expr) {
     match expr {
-        Expr::Paren(left, value, right) => {
+        Expr::Paren(left, operand, right) => {
             text.tok(left);
-            tell(text, value);
+            tell(text, operand);
             text.tok(right);
         }
         Expr::Call { on, id, args } => {
@@ -82,8 +82,8 @@ fn tell_primary(text: &mut TreeText, expr: &Expr) {
             text.tok(id);
             tell_args(text, args);
         }
-        Expr::Field(value, dot, id) => {
-            tell(text, value);
+        Expr::Field(operand, dot, id) => {
+            tell(text, operand);
             text.tok(dot);
             text.tok(id);
         }
@@ -101,8 +101,8 @@ fn tell_primary(text: &mut TreeText, expr: &Expr) {
                 None => (),
             }
         }
-        Expr::Index(value, left, index, right) => {
-            tell(text, value);
+        Expr::Index(operand, left, index, right) => {
+            tell(text, operand);
             text.tok(left);
             tell(text, index);
             text.tok(right);
@@ -187,7 +187,7 @@ fn tell_sizes(text: &mut TreeText, sizes: &List<(Tok, Expr, Tok)>) {
 #[cycle(tell)]
 fn tell_init(text: &mut TreeText, init: &Init) {
     match init {
-        Init::Value(value) => tell(text, value),
+        Init::Expression(operand) => tell(text, operand),
         Init::Braced(braces) => {
             text.open();
             tell_braces(text, braces);
@@ -222,7 +222,7 @@ fn tell_braces(text: &mut TreeText, braces: &Braces) {
 /// What a variable begins with, without `«` and `»` of its own.
 pub(crate) fn tell_beginning(text: &mut TreeText, init: &Init) {
     match init {
-        Init::Value(value) => tell_bare(text, value),
+        Init::Expression(operand) => tell_bare(text, operand),
         Init::Braced(braces) => tell_braces(text, braces),
     }
 }

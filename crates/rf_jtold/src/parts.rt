@@ -99,7 +99,7 @@ pub(crate) fn tell_vars(text: &mut TreeText, vars: &Many<Var>) {
 
 pub(crate) fn tell_local(text: &mut TreeText, local: &Local) {
     tell_mods(text, &local.mods);
-    text.sort(&local.sort);
+    text.type_use(&local.used_type);
     tell_vars(text, &local.vars);
 }
 
@@ -143,7 +143,7 @@ pub(crate) fn tell_first(text: &mut TreeText, first: &ForFirst) {
 pub(crate) fn tell_head(text: &mut TreeText, head: &Head) {
     text.tok(&head.word);
     text.tok(&head.left);
-    tell_bare(text, &head.value);
+    tell_bare(text, &head.expression);
     text.tok(&head.right);
 }
 

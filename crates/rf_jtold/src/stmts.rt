@@ -116,7 +116,7 @@ fn tell_each_head(text: &mut TreeText, head: &EachHead) {
     text.tok(&head.word);
     text.tok(&head.left);
     tell_mods(text, &head.mods);
-    text.sort(&head.sort);
+    text.type_use(&head.used_type);
     text.tok(&head.id);
     text.tok(&head.colon);
     tell_bare(text, &head.over);
@@ -131,8 +131,8 @@ fn tell_simple(text: &mut TreeText, stmt: &Stmt) {
             tell_local(text, local);
             text.tok(semi);
         }
-        Stmt::Value(value, semi) => {
-            tell_bare(text, value);
+        Stmt::Expression(expression, semi) => {
+            tell_bare(text, expression);
             text.tok(semi);
         }
         Stmt::Jump(word, label, semi) => {
@@ -140,14 +140,14 @@ fn tell_simple(text: &mut TreeText, stmt: &Stmt) {
             tell_tok(text, label);
             text.tok(semi);
         }
-        Stmt::Return(word, value, semi) => {
+        Stmt::Return(word, expression, semi) => {
             text.tok(word);
-            tell_some(text, value);
+            tell_some(text, expression);
             text.tok(semi);
         }
-        Stmt::Throw(word, value, semi) => {
+        Stmt::Throw(word, expression, semi) => {
             text.tok(word);
-            tell_bare(text, value);
+            tell_bare(text, expression);
             text.tok(semi);
         }
         Stmt::Assert(word, test, message, semi) => {
@@ -199,7 +199,7 @@ fn tell_other(text: &mut TreeText, other: &Option<(Tok, Box<Stmt>)>) {
 fn tell_group(text: &mut TreeText, group: &Group) {
     text.open();
     text.tok(&group.word);
-    tell_some(text, &group.value);
+    tell_some(text, &group.expression);
     text.tok(&group.colon);
     tell_stmts(text, &group.body);
     text.close();

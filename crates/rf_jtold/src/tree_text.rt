@@ -83,8 +83,8 @@ impl TreeText {
         }
     }
 
-    pub(crate) fn sort(&mut self, sort: &TypeUse) {
-        self.base(&sort.base);
-        self.dims(&sort.dims);
+    pub(crate) fn type_use(&mut self, used_type: &TypeUse) {
+        self.base(&used_type.base);
+        self.dims(&used_type.dims);
     }
 }

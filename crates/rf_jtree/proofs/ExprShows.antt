@@ -34,9 +34,9 @@ more_inits_shown-map : (rest : List (Tok × Init)) → more_inits_tree (map (λ 
 more_inits_shown-map [] = refl
 more_inits_shown-map (item ∷ rest) = ap (t.MoreInits item.0 (init_shown item.1)) (more_inits_shown-map rest)
 
-pub expr_shown-Assign : (left : Box Expr Global) (op : Tok) (value : Box Expr Global) → expr_shown (e.Assign left op value) ≡ t.Assign (expr_shown left.value) op (expr_shown value.value)
+pub expr_shown-Assign : (left : Box Expr Global) (op : Tok) (operand : Box Expr Global) → expr_shown (e.Assign left op operand) ≡ t.Assign (expr_shown left.value) op (expr_shown operand.value)
 unfolding expr_shown
-expr_shown-Assign left op value = ap expr_shown (sym (e.rolls-Assign left op value)) ∙ fold-roll-Expr ExprTree InitTree ArgsTree BracesTree expr_layer init_layer args_layer braces_layer (Expr-F.Assign left op value)
+expr_shown-Assign left op operand = ap expr_shown (sym (e.rolls-Assign left op operand)) ∙ fold-roll-Expr ExprTree InitTree ArgsTree BracesTree expr_layer init_layer args_layer braces_layer (Expr-F.Assign left op operand)
 
 pub expr_shown-Cond : (test : Box Expr Global) (mark : Box Tok Global) (first : Box Expr Global) (colon : Box Tok Global) (other : Box Expr Global) → expr_shown (e.Cond test mark first colon other) ≡ t.Cond (expr_shown test.value) mark.value (expr_shown first.value) colon.value (expr_shown other.value)
 unfolding expr_shown
@@ -46,21 +46,21 @@ pub expr_shown-Binary : (left : Box Expr Global) (op : Tok) (right : Box Expr Gl
 unfolding expr_shown
 expr_shown-Binary left op right = ap expr_shown (sym (e.rolls-Binary left op right)) ∙ fold-roll-Expr ExprTree InitTree ArgsTree BracesTree expr_layer init_layer args_layer braces_layer (Expr-F.Binary left op right)
 
-pub expr_shown-Instance : (value : Box Expr Global) (word : Tok) (sort : Box TypeUse Global) → expr_shown (e.Instance value word sort) ≡ t.Instance (expr_shown value.value) word (type_shown sort.value)
+pub expr_shown-Instance : (operand : Box Expr Global) (word : Tok) (used_type : Box TypeUse Global) → expr_shown (e.Instance operand word used_type) ≡ t.Instance (expr_shown operand.value) word (type_shown used_type.value)
 unfolding expr_shown
-expr_shown-Instance value word sort = ap expr_shown (sym (e.rolls-Instance value word sort)) ∙ fold-roll-Expr ExprTree InitTree ArgsTree BracesTree expr_layer init_layer args_layer braces_layer (Expr-F.Instance value word sort)
+expr_shown-Instance operand word used_type = ap expr_shown (sym (e.rolls-Instance operand word used_type)) ∙ fold-roll-Expr ExprTree InitTree ArgsTree BracesTree expr_layer init_layer args_layer braces_layer (Expr-F.Instance operand word used_type)
 
-pub expr_shown-Unary : (op : Tok) (value : Box Expr Global) → expr_shown (e.Unary op value) ≡ t.Unary op (expr_shown value.value)
+pub expr_shown-Unary : (op : Tok) (operand : Box Expr Global) → expr_shown (e.Unary op operand) ≡ t.Unary op (expr_shown operand.value)
 unfolding expr_shown
-expr_shown-Unary op value = ap expr_shown (sym (e.rolls-Unary op value)) ∙ fold-roll-Expr ExprTree InitTree ArgsTree BracesTree expr_layer init_layer args_layer braces_layer (Expr-F.Unary op value)
+expr_shown-Unary op operand = ap expr_shown (sym (e.rolls-Unary op operand)) ∙ fold-roll-Expr ExprTree InitTree ArgsTree BracesTree expr_layer init_layer args_layer braces_layer (Expr-F.Unary op operand)
 
-pub expr_shown-Cast : (left : Tok) (sort : Box TypeUse Global) (right : Box Tok Global) (value : Box Expr Global) → expr_shown (e.Cast left sort right value) ≡ t.Cast left (type_shown sort.value) right.value (expr_shown value.value)
+pub expr_shown-Cast : (left : Tok) (used_type : Box TypeUse Global) (right : Box Tok Global) (operand : Box Expr Global) → expr_shown (e.Cast left used_type right operand) ≡ t.Cast left (type_shown used_type.value) right.value (expr_shown operand.value)
 unfolding expr_shown
-expr_shown-Cast left sort right value = ap expr_shown (sym (e.rolls-Cast left sort right value)) ∙ fold-roll-Expr ExprTree InitTree ArgsTree BracesTree expr_layer init_layer args_layer braces_layer (Expr-F.Cast left sort right value)
+expr_shown-Cast left used_type right operand = ap expr_shown (sym (e.rolls-Cast left used_type right operand)) ∙ fold-roll-Expr ExprTree InitTree ArgsTree BracesTree expr_layer init_layer args_layer braces_layer (Expr-F.Cast left used_type right operand)
 
-pub expr_shown-Postfix : (value : Box Expr Global) (op : Tok) → expr_shown (e.Postfix value op) ≡ t.Postfix (expr_shown value.value) op
+pub expr_shown-Postfix : (operand : Box Expr Global) (op : Tok) → expr_shown (e.Postfix operand op) ≡ t.Postfix (expr_shown operand.value) op
 unfolding expr_shown
-expr_shown-Postfix value op = ap expr_shown (sym (e.rolls-Postfix value op)) ∙ fold-roll-Expr ExprTree InitTree ArgsTree BracesTree expr_layer init_layer args_layer braces_layer (Expr-F.Postfix value op)
+expr_shown-Postfix operand op = ap expr_shown (sym (e.rolls-Postfix operand op)) ∙ fold-roll-Expr ExprTree InitTree ArgsTree BracesTree expr_layer init_layer args_layer braces_layer (Expr-F.Postfix operand op)
 
 pub expr_shown-Lit : (tok : Tok) → expr_shown (e.Lit tok) ≡ t.Lit tok
 unfolding expr_shown
@@ -70,9 +70,9 @@ pub expr_shown-This : (tok : Tok) → expr_shown (e.This tok) ≡ t.This tok
 unfolding expr_shown
 expr_shown-This tok = ap expr_shown (sym (e.rolls-This tok)) ∙ fold-roll-Expr ExprTree InitTree ArgsTree BracesTree expr_layer init_layer args_layer braces_layer (Expr-F.This tok)
 
-pub expr_shown-Paren : (left : Tok) (value : Box Expr Global) (right : Box Tok Global) → expr_shown (e.Paren left value right) ≡ t.Paren left (expr_shown value.value) right.value
+pub expr_shown-Paren : (left : Tok) (operand : Box Expr Global) (right : Box Tok Global) → expr_shown (e.Paren left operand right) ≡ t.Paren left (expr_shown operand.value) right.value
 unfolding expr_shown
-expr_shown-Paren left value right = ap expr_shown (sym (e.rolls-Paren left value right)) ∙ fold-roll-Expr ExprTree InitTree ArgsTree BracesTree expr_layer init_layer args_layer braces_layer (Expr-F.Paren left value right)
+expr_shown-Paren left operand right = ap expr_shown (sym (e.rolls-Paren left operand right)) ∙ fold-roll-Expr ExprTree InitTree ArgsTree BracesTree expr_layer init_layer args_layer braces_layer (Expr-F.Paren left operand right)
 
 pub expr_shown-Name : (name : Name) → expr_shown (e.Name name) ≡ t.Name (name_shown name)
 unfolding expr_shown
@@ -83,9 +83,9 @@ unfolding expr_shown args_shown
 expr_shown-Call None id args = ap expr_shown (sym (e.rolls-Call None id args)) ∙ fold-roll-Expr ExprTree InitTree ArgsTree BracesTree expr_layer init_layer args_layer braces_layer (Expr-F.Call None id args)
 expr_shown-Call (Some on) id args = ap expr_shown (sym (e.rolls-Call (Some on) id args)) ∙ fold-roll-Expr ExprTree InitTree ArgsTree BracesTree expr_layer init_layer args_layer braces_layer (Expr-F.Call (Some on) id args)
 
-pub expr_shown-Field : (value : Box Expr Global) (dot : Box Tok Global) (id : Tok) → expr_shown (e.Field value dot id) ≡ t.Field (expr_shown value.value) dot.value id
+pub expr_shown-Field : (operand : Box Expr Global) (dot : Box Tok Global) (id : Tok) → expr_shown (e.Field operand dot id) ≡ t.Field (expr_shown operand.value) dot.value id
 unfolding expr_shown
-expr_shown-Field value dot id = ap expr_shown (sym (e.rolls-Field value dot id)) ∙ fold-roll-Expr ExprTree InitTree ArgsTree BracesTree expr_layer init_layer args_layer braces_layer (Expr-F.Field value dot id)
+expr_shown-Field operand dot id = ap expr_shown (sym (e.rolls-Field operand dot id)) ∙ fold-roll-Expr ExprTree InitTree ArgsTree BracesTree expr_layer init_layer args_layer braces_layer (Expr-F.Field operand dot id)
 
 pub expr_shown-Super : (word dot id : Box Tok Global) (args : Option (Box Args Global)) → expr_shown (e.Super word dot id args) ≡ t.Super word.value dot.value id.value (super_args_shown args)
 unfolding expr_shown args_shown
@@ -96,9 +96,9 @@ pub expr_shown-New : (word : Tok) (name : Box Name Global) (args : Box Args Glob
 unfolding expr_shown args_shown
 expr_shown-New word name args = ap expr_shown (sym (e.rolls-New word name args)) ∙ fold-roll-Expr ExprTree InitTree ArgsTree BracesTree expr_layer init_layer args_layer braces_layer (Expr-F.New word name args)
 
-pub expr_shown-Index : (value : Box Expr Global) (left : Tok) (index : Box Expr Global) (right : Box Tok Global) → expr_shown (e.Index value left index right) ≡ t.Index (expr_shown value.value) left (expr_shown index.value) right.value
+pub expr_shown-Index : (operand : Box Expr Global) (left : Tok) (index : Box Expr Global) (right : Box Tok Global) → expr_shown (e.Index operand left index right) ≡ t.Index (expr_shown operand.value) left (expr_shown index.value) right.value
 unfolding expr_shown
-expr_shown-Index value left index right = ap expr_shown (sym (e.rolls-Index value left index right)) ∙ fold-roll-Expr ExprTree InitTree ArgsTree BracesTree expr_layer init_layer args_layer braces_layer (Expr-F.Index value left index right)
+expr_shown-Index operand left index right = ap expr_shown (sym (e.rolls-Index operand left index right)) ∙ fold-roll-Expr ExprTree InitTree ArgsTree BracesTree expr_layer init_layer args_layer braces_layer (Expr-F.Index operand left index right)
 
 pub expr_shown-NewArray : (word : Box Tok Global) (base : Box TypeBase Global) (sizes : List (Tok × Expr × Tok)) (dims : Dims) → expr_shown (e.NewArray word base sizes dims) ≡ t.NewArray word.value (base_shown base.value) (sizes_shown sizes) dims
 unfolding expr_shown
@@ -109,9 +109,9 @@ unfolding expr_shown braces_shown
 expr_shown-NewInit word base dims init = ap expr_shown (sym (e.rolls-NewInit word base dims init)) ∙ fold-roll-Expr ExprTree InitTree ArgsTree BracesTree expr_layer init_layer args_layer braces_layer (Expr-F.NewInit word base dims init)
 
 -- what an item begins with
-pub init_shown-Value : (value : Box Expr Global) → init_shown (i.Value value) ≡ t.Value (expr_shown value.value)
+pub init_shown-Expression : (operand : Box Expr Global) → init_shown (i.Expression operand) ≡ t.Expression (expr_shown operand.value)
 unfolding expr_shown init_shown
-init_shown-Value value = ap init_shown (sym (i.rolls-Value value)) ∙ fold-roll-Init ExprTree InitTree ArgsTree BracesTree expr_layer init_layer args_layer braces_layer (Init-F.Value value)
+init_shown-Expression operand = ap init_shown (sym (i.rolls-Expression operand)) ∙ fold-roll-Init ExprTree InitTree ArgsTree BracesTree expr_layer init_layer args_layer braces_layer (Init-F.Expression operand)
 
 pub init_shown-Braced : (braces : Box Braces Global) → init_shown (i.Braced braces) ≡ t.Braced (braces_shown braces.value)
 unfolding init_shown braces_shown
@@ -142,4 +142,4 @@ pub braces_shown_out : (braces : Braces) → braces_shown braces ≡ t.Braces (o
 braces_shown_out braces = ap braces_shown (sym (roll-out-Braces braces)) ∙ braces_shown-roll (out-Braces braces)
 
 -- all of them
-pub ruleset expr_shows = (expr_shown-Assign, expr_shown-Cond, expr_shown-Binary, expr_shown-Instance, expr_shown-Unary, expr_shown-Cast, expr_shown-Postfix, expr_shown-Lit, expr_shown-This, expr_shown-Paren, expr_shown-Name, expr_shown-Call, expr_shown-Field, expr_shown-Super, expr_shown-New, expr_shown-Index, expr_shown-NewArray, expr_shown-NewInit, init_shown-Value, init_shown-Braced, args_shown-roll, braces_shown-roll)
+pub ruleset expr_shows = (expr_shown-Assign, expr_shown-Cond, expr_shown-Binary, expr_shown-Instance, expr_shown-Unary, expr_shown-Cast, expr_shown-Postfix, expr_shown-Lit, expr_shown-This, expr_shown-Paren, expr_shown-Name, expr_shown-Call, expr_shown-Field, expr_shown-Super, expr_shown-New, expr_shown-Index, expr_shown-NewArray, expr_shown-NewInit, init_shown-Expression, init_shown-Braced, args_shown-roll, braces_shown-roll)

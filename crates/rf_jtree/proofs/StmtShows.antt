@@ -50,9 +50,9 @@ pub stmt_shown-Label : (id colon : Tok) (body : Box Stmt Global) → stmt_shown 
 unfolding stmt_shown
 stmt_shown-Label id colon body = ap stmt_shown (sym (s.rolls-Label id colon body)) ∙ fold-roll-Stmt StmtTree BlockTree CatchTree GroupTree stmt_layer block_layer catch_layer group_layer (Stmt-F.Label id colon body)
 
-pub stmt_shown-Value : (value : Box Expr Global) (semi : Tok) → stmt_shown (s.Value value semi) ≡ t.Value (boxed_expr_shown value) semi
+pub stmt_shown-Expression : (expression : Box Expr Global) (semi : Tok) → stmt_shown (s.Expression expression semi) ≡ t.Expression (boxed_expr_shown expression) semi
 unfolding stmt_shown
-stmt_shown-Value value semi = ap stmt_shown (sym (s.rolls-Value value semi)) ∙ fold-roll-Stmt StmtTree BlockTree CatchTree GroupTree stmt_layer block_layer catch_layer group_layer (Stmt-F.Value value semi)
+stmt_shown-Expression expression semi = ap stmt_shown (sym (s.rolls-Expression expression semi)) ∙ fold-roll-Stmt StmtTree BlockTree CatchTree GroupTree stmt_layer block_layer catch_layer group_layer (Stmt-F.Expression expression semi)
 
 pub stmt_shown-If : (head : Box Head Global) (then : Box Stmt Global) (other : Option (Tok × Box Stmt Global)) → stmt_shown (s.If head then other) ≡ if_tree head.value (stmt_shown then.value) (other_shown other)
 unfolding stmt_shown
@@ -83,13 +83,13 @@ pub stmt_shown-Jump : (word : Tok) (label : Option Tok) (semi : Tok) → stmt_sh
 unfolding stmt_shown
 stmt_shown-Jump word label semi = ap stmt_shown (sym (s.rolls-Jump word label semi)) ∙ fold-roll-Stmt StmtTree BlockTree CatchTree GroupTree stmt_layer block_layer catch_layer group_layer (Stmt-F.Jump word label semi)
 
-pub stmt_shown-Return : (word : Tok) (value : Option (Box Expr Global)) (semi : Tok) → stmt_shown (s.Return word value semi) ≡ t.Return word (optional_expr_shown value) semi
+pub stmt_shown-Return : (word : Tok) (expression : Option (Box Expr Global)) (semi : Tok) → stmt_shown (s.Return word expression semi) ≡ t.Return word (optional_expr_shown expression) semi
 unfolding stmt_shown
-stmt_shown-Return word value semi = ap stmt_shown (sym (s.rolls-Return word value semi)) ∙ fold-roll-Stmt StmtTree BlockTree CatchTree GroupTree stmt_layer block_layer catch_layer group_layer (Stmt-F.Return word value semi)
+stmt_shown-Return word expression semi = ap stmt_shown (sym (s.rolls-Return word expression semi)) ∙ fold-roll-Stmt StmtTree BlockTree CatchTree GroupTree stmt_layer block_layer catch_layer group_layer (Stmt-F.Return word expression semi)
 
-pub stmt_shown-Throw : (word : Tok) (value : Box Expr Global) (semi : Tok) → stmt_shown (s.Throw word value semi) ≡ t.Throw word (boxed_expr_shown value) semi
+pub stmt_shown-Throw : (word : Tok) (expression : Box Expr Global) (semi : Tok) → stmt_shown (s.Throw word expression semi) ≡ t.Throw word (boxed_expr_shown expression) semi
 unfolding stmt_shown
-stmt_shown-Throw word value semi = ap stmt_shown (sym (s.rolls-Throw word value semi)) ∙ fold-roll-Stmt StmtTree BlockTree CatchTree GroupTree stmt_layer block_layer catch_layer group_layer (Stmt-F.Throw word value semi)
+stmt_shown-Throw word expression semi = ap stmt_shown (sym (s.rolls-Throw word expression semi)) ∙ fold-roll-Stmt StmtTree BlockTree CatchTree GroupTree stmt_layer block_layer catch_layer group_layer (Stmt-F.Throw word expression semi)
 
 pub stmt_shown-Sync : (head : Box Head Global) (body : Box Block Global) → stmt_shown (s.Sync head body) ≡ sync_tree head.value (block_shown body.value)
 unfolding stmt_shown block_shown
@@ -124,15 +124,15 @@ pub catch_shown_out : (part : Catch) → catch_shown part ≡ t.Catch (out-Catch
 catch_shown_out part = ap catch_shown (sym (roll-out-Catch part)) ∙ catch_shown-roll (out-Catch part)
 
 -- groups of a `switch`
-group_shown-parts : (word : Tok) (value : Option (Box Expr Global)) (colon : Tok) (body : List Stmt) → group_shown (roll-Group record { word = word; value = value; colon = colon; body = body }) ≡ t.Group word (optional_expr_shown value) colon (stmts_shown body)
+group_shown-parts : (word : Tok) (expression : Option (Box Expr Global)) (colon : Tok) (body : List Stmt) → group_shown (roll-Group record { word = word; expression = expression; colon = colon; body = body }) ≡ t.Group word (optional_expr_shown expression) colon (stmts_shown body)
 unfolding stmt_shown group_shown
-group_shown-parts word value colon body = fold-roll-Group StmtTree BlockTree CatchTree GroupTree stmt_layer block_layer catch_layer group_layer record { word = word; value = value; colon = colon; body = body } ∙ ap (t.Group word (optional_expr_shown value) colon) (stmts_shown-map body)
+group_shown-parts word expression colon body = fold-roll-Group StmtTree BlockTree CatchTree GroupTree stmt_layer block_layer catch_layer group_layer record { word = word; expression = expression; colon = colon; body = body } ∙ ap (t.Group word (optional_expr_shown expression) colon) (stmts_shown-map body)
 
-pub group_shown-roll : (group : Group-F Stmt Block Catch Group) → group_shown (roll-Group group) ≡ t.Group group.word (optional_expr_shown group.value) group.colon (stmts_shown group.body)
-group_shown-roll group = group_shown-parts group.word group.value group.colon group.body
+pub group_shown-roll : (group : Group-F Stmt Block Catch Group) → group_shown (roll-Group group) ≡ t.Group group.word (optional_expr_shown group.expression) group.colon (stmts_shown group.body)
+group_shown-roll group = group_shown-parts group.word group.expression group.colon group.body
 
-pub group_shown_out : (group : Group) → group_shown group ≡ t.Group (out-Group group).word (optional_expr_shown (out-Group group).value) (out-Group group).colon (stmts_shown (out-Group group).body)
+pub group_shown_out : (group : Group) → group_shown group ≡ t.Group (out-Group group).word (optional_expr_shown (out-Group group).expression) (out-Group group).colon (stmts_shown (out-Group group).body)
 group_shown_out group = ap group_shown (sym (roll-out-Group group)) ∙ group_shown-roll (out-Group group)
 
 -- all of them
-pub ruleset stmt_shows = (stmt_shown-Block, stmt_shown-Empty, stmt_shown-Local, stmt_shown-Label, stmt_shown-Value, stmt_shown-If, stmt_shown-While, stmt_shown-Do, stmt_shown-For, stmt_shown-Each, stmt_shown-Switch, stmt_shown-Jump, stmt_shown-Return, stmt_shown-Throw, stmt_shown-Sync, stmt_shown-Assert, stmt_shown-Try, block_shown-roll, catch_shown-roll, group_shown-roll)
+pub ruleset stmt_shows = (stmt_shown-Block, stmt_shown-Empty, stmt_shown-Local, stmt_shown-Label, stmt_shown-Expression, stmt_shown-If, stmt_shown-While, stmt_shown-Do, stmt_shown-For, stmt_shown-Each, stmt_shown-Switch, stmt_shown-Jump, stmt_shown-Return, stmt_shown-Throw, stmt_shown-Sync, stmt_shown-Assert, stmt_shown-Try, block_shown-roll, catch_shown-roll, group_shown-roll)

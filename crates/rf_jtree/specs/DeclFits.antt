@@ -6,7 +6,7 @@ use Rattle.rf_jtree.specs.declared.tokens.Tok.{Tok}
 use Rattle.rf_jtree.specs.declared.words.Kw.{Kw}
 use Rattle.rf_jtree.specs.declared.operator_names.TheConstants.{COMMA, DOT, SEMICOLON, TIMES}
 use Rattle.rf_jtree.specs.declared.keyword_names.TheConstants.{ABSTRACT, CLASS, EXTENDS, IMPLEMENTS, IMPORT, INTERFACE, NATIVE, PACKAGE, PRIVATE, PROTECTED, STATIC, SUPER, THIS, THROWS, VOID, ACCESSES}
-use Rattle.rf_jtree.specs.DeclTrees.{ParamTree, ParamsTree, CtorCallTree, RetTree, Void, Value, BodyTree, Block, MemberTree, Init, Ctor, Method, Field, TypeDeclTree, ImportTree, UnitTree}
+use Rattle.rf_jtree.specs.DeclTrees.{ParamTree, ParamsTree, CtorCallTree, RetTree, Void, Typed, BodyTree, Block, MemberTree, Init, Ctor, Method, Field, TypeDeclTree, ImportTree, UnitTree}
 use Rattle.rf_jtree.specs.ExprFits.{ArgsFit}
 use Rattle.rf_jtree.specs.Kinds.{IsOp, IsKey, IsIdent, AreParens, AreBraces, is_key_of}
 use Rattle.rf_jtree.specs.NameFits.{EachFits, ManyFit, NameFits, DimsFit, TypeFits, ModsFit}
@@ -33,7 +33,7 @@ NamesFit key names = IsKey key names.0 × ManyFit NameFits COMMA names.1
 -- a parameter (JLS 8.4.1)
 pub record ParamFits (param : ParamTree) : Type 0 where
   pub mods_fit : VariableModsFit param.mods
-  pub sort_fits : TypeFits param.sort
+  pub used_type_fits : TypeFits param.used_type
   pub id_is : IsIdent param.id
   pub dims_fit : DimsFit param.dims
 
@@ -56,7 +56,7 @@ CtorCallFits call = ((IsKey THIS call.word) ⊎ (IsKey SUPER call.word)) × Args
 -- the result of a method (JLS 8.4)
 abbrev pub RetFits : RetTree → Type 0
 RetFits (Void word) = IsKey VOID word
-RetFits (Value sort) = TypeFits sort
+RetFits (Typed used_type) = TypeFits used_type
 
 -- the body of a method, or `;` in its place (JLS 8.4.7)
 abbrev pub BodyFits : BodyTree → Type 0
@@ -81,7 +81,7 @@ MemberFits (MemberTree.Semi semi) = IsOp SEMICOLON semi
 MemberFits (Init word body) = IfSome word (IsKey STATIC) × BlockFits body
 MemberFits (Ctor mods id params throws left call body right) = CtorModsFit mods × IsCtor id params throws left call right × StmtsFit body
 MemberFits (Method mods ret id params throws body) = ModsFit mods × RetFits ret × IsCallable id params throws × BodyFits body
-MemberFits (Field mods sort vars semi) = ModsFit mods × TypeFits sort × ManyFit VarFits COMMA vars × IsOp SEMICOLON semi
+MemberFits (Field mods used_type vars semi) = ModsFit mods × TypeFits used_type × ManyFit VarFits COMMA vars × IsOp SEMICOLON semi
 
 -- A method of a class has `;` in place of a body exactly where it is abstract or native (JLS 8.4.7).
 abbrev pub is_semi : BodyTree → Bool
@@ -112,7 +112,7 @@ InterfaceTakes (MemberTree.Semi semi) = Unit {0}
 InterfaceTakes (Init word body) = ⊥
 InterfaceTakes (Ctor mods id params throws left call body right) = ⊥
 InterfaceTakes (Method mods ret id params throws body) = IsInterfaceMethod mods body
-InterfaceTakes (Field mods sort vars semi) = IsInterfaceField mods vars
+InterfaceTakes (Field mods used_type vars semi) = IsInterfaceField mods vars
 
 -- A class extends one class at most, and implements any number of interfaces (JLS 8.1.4, 8.1.5).
 abbrev pub IsOneName : Tok × ManyTree NameTree → Type 0
@@ -133,7 +133,7 @@ pub record IsInterface (decl : TypeDeclTree) : Type 0 where
 pub record DeclFits (decl : TypeDeclTree) : Type 0 where
   pub mods_fit : ModsFit decl.mods
   pub visible : IsNeitherPrivateNorProtected decl.mods
-  pub sort : (IsClass decl) ⊎ (IsInterface decl)
+  pub kind : (IsClass decl) ⊎ (IsInterface decl)
   pub id_is : IsIdent decl.id
   pub extends_fits : IfSome decl.extends (NamesFit EXTENDS)
   pub implements_fits : IfSome decl.implements (NamesFit IMPLEMENTS)

@@ -30,7 +30,7 @@ abbrev pub names_shown : Tok × Many Name → Tok × ManyTree NameTree
 names_shown names = (names.0, many_shown name_shown names.1)
 
 abbrev pub param_shown : Param → ParamTree
-param_shown param = record { mods = mods_shown param.mods; sort = type_shown param.sort; id = param.id; dims = param.dims }
+param_shown param = record { mods = mods_shown param.mods; used_type = type_shown param.used_type; id = param.id; dims = param.dims }
 
 abbrev pub more_params_shown : List (Tok × Param) → List (Tok × ParamTree)
 more_params_shown rest = map (λ item. (item.0, param_shown item.1)) rest
@@ -43,7 +43,7 @@ ctor_call_shown call = record { word = call.word; args = args_shown call.args; s
 
 abbrev pub ret_shown : Ret → RetTree
 ret_shown (r.Void word) = t.Void word
-ret_shown (r.Value sort) = t.Value (type_shown sort)
+ret_shown (r.Typed used_type) = t.Typed (type_shown used_type)
 
 abbrev pub body_shown : Body → BodyTree
 body_shown (b.Block block) = t.Block (block_shown block)
@@ -56,7 +56,7 @@ member_shown (m.Ctor mods id params throws left call body right) =
     t.Ctor (mods_shown mods) id (params_shown params) (option_map names_shown throws) left (option_map ctor_call_shown call) (stmts_shown body) right
 member_shown (m.Method mods ret id params throws body) =
     t.Method (mods_shown mods) (ret_shown ret) id (params_shown params) (option_map names_shown throws) (body_shown body)
-member_shown (m.Field mods sort vars semi) = t.Field (mods_shown mods) (type_shown sort) (many_shown var_shown vars) semi
+member_shown (m.Field mods used_type vars semi) = t.Field (mods_shown mods) (type_shown used_type) (many_shown var_shown vars) semi
 
 abbrev pub members_shown : List Member → List MemberTree
 members_shown members = map member_shown members

@@ -11,7 +11,7 @@ use Rattle.rf_jtree.specs.StmtTrees.{BlockTree, StmtsTree, VarTree, block_yield,
 -- a parameter of a method or a constructor (JLS 8.4.1)
 pub record ParamTree : Type 0 where
   pub mods : List ModTree
-  pub sort : TypeUseTree
+  pub used_type : TypeUseTree
   pub id : Tok
   pub dims : Dims
 
@@ -30,7 +30,7 @@ pub record CtorCallTree : Type 0 where
 -- the result of a method (JLS 8.4)
 pub data RetTree : Type 0 where
   Void : Tok → RetTree
-  Value : TypeUseTree → RetTree
+  Typed : TypeUseTree → RetTree
 
 -- the body of a method, or `;` in its place (JLS 8.4.7)
 pub data BodyTree : Type 0 where
@@ -43,7 +43,7 @@ pub data MemberTree : Type 0 where
   Init : (word : Option Tok) (body : BlockTree) → MemberTree
   Ctor : (mods : List ModTree) (id : Tok) (params : ParamsTree) (throws : Option (Tok × ManyTree NameTree)) (left : Tok) (call : Option CtorCallTree) (body : StmtsTree) (right : Tok) → MemberTree
   Method : (mods : List ModTree) (ret : RetTree) (id : Tok) (params : ParamsTree) (throws : Option (Tok × ManyTree NameTree)) (body : BodyTree) → MemberTree
-  Field : (mods : List ModTree) (sort : TypeUseTree) (vars : ManyTree VarTree) (semi : Tok) → MemberTree
+  Field : (mods : List ModTree) (used_type : TypeUseTree) (vars : ManyTree VarTree) (semi : Tok) → MemberTree
 
 -- a class or an interface (JLS 8.1, 9.1)
 pub record TypeDeclTree : Type 0 where
@@ -75,7 +75,7 @@ abbrev pub names_yield : Option (Tok × ManyTree NameTree) → List Tok
 names_yield names = option_yield (behind_yield (many_yield name_yield)) names
 
 abbrev pub param_yield : ParamTree → List Tok
-param_yield param = mods_yield param.mods ++ (type_yield param.sort ++ param.id ∷ dims_yield param.dims)
+param_yield param = mods_yield param.mods ++ (type_yield param.used_type ++ param.id ∷ dims_yield param.dims)
 
 abbrev pub params_yield : ParamsTree → List Tok
 params_yield params = params.left ∷ (option_yield (many_yield param_yield) params.list ++ params.right ∷ [])
@@ -85,7 +85,7 @@ ctor_call_yield call = call.word ∷ (args_yield call.args ++ call.semi ∷ [])
 
 abbrev pub ret_yield : RetTree → List Tok
 ret_yield (Void word) = word ∷ []
-ret_yield (Value sort) = type_yield sort
+ret_yield (Typed used_type) = type_yield used_type
 
 abbrev pub body_yield : BodyTree → List Tok
 body_yield (Block block) = block_yield block
@@ -98,7 +98,7 @@ member_yield (Ctor mods id params throws left call body right) =
     mods_yield mods ++ id ∷ (params_yield params ++ (names_yield throws ++ left ∷ (option_yield ctor_call_yield call ++ (stmts_yield body ++ right ∷ []))))
 member_yield (Method mods ret id params throws body) =
     mods_yield mods ++ (ret_yield ret ++ id ∷ (params_yield params ++ (names_yield throws ++ body_yield body)))
-member_yield (Field mods sort vars semi) = mods_yield mods ++ (type_yield sort ++ (many_yield var_yield vars ++ semi ∷ []))
+member_yield (Field mods used_type vars semi) = mods_yield mods ++ (type_yield used_type ++ (many_yield var_yield vars ++ semi ∷ []))
 
 abbrev pub decl_yield : TypeDeclTree → List Tok
 decl_yield decl =
@@ -123,7 +123,7 @@ member_depth (MemberTree.Semi semi) = 0
 member_depth (Init word body) = block_depth body
 member_depth (Ctor mods id params throws left call body right) = max (option_depth (λ call. args_depth call.args) call) (stmts_depth body)
 member_depth (Method mods ret id params throws body) = body_depth body
-member_depth (Field mods sort vars semi) = many_depth var_depth vars
+member_depth (Field mods used_type vars semi) = many_depth var_depth vars
 
 abbrev pub unit_depth : UnitTree → ℕ
 unit_depth unit = list_depth member_depth unit.decl.members

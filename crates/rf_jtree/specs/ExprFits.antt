@@ -10,7 +10,7 @@ use Rattle.rf_jtree.specs.declared.operator_names.TheConstants.{COMMA, DOT, QUES
 use Rattle.rf_jtree.specs.declared.keyword_names.TheConstants.{INSTANCEOF, NEW, SUPER, THIS, OPERAND_WORDS}
 use Rattle.rf_jtree.specs.ExprTrees.{ExprTree, Assign, Cond, Binary, Instance, Unary, Cast, Postfix, Lit, This, Paren, Name, Call, Field, Super, New, Index, NewArray, NewInit}
 use Rattle.rf_jtree.specs.ExprTrees.{OnTree, NoOn, On, ArgsTree, Args, SuperArgsTree, NoArgs, SuperArgs, ExprsTree, NoExprs, Exprs, MoreExprsTree, NoMoreExprs, MoreExprs, SizesTree, NoSizes, Sizes}
-use Rattle.rf_jtree.specs.ExprTrees.{InitTree, Value, Braced, BracesTree, Braces, InitsTree, NoInits, Inits, MoreInitsTree, NoMoreInits, MoreInits, expr_yield}
+use Rattle.rf_jtree.specs.ExprTrees.{InitTree, Expression, Braced, BracesTree, Braces, InitsTree, NoInits, Inits, MoreInitsTree, NoMoreInits, MoreInits, expr_yield}
 use Rattle.rf_jtree.specs.Kinds.{IsOp, IsKey, IsIdent, AreParens, AreBrackets, AreBraces, is_op_of, has_op, has_key, is_literal}
 use Rattle.rf_jtree.specs.Levels.{BindsAt, binary_level}
 use Rattle.rf_jtree.specs.NameFits.{NameFits, BaseFits, DimsFit, TypeFits}
@@ -19,9 +19,9 @@ use Rattle.rf_jtree.specs.NameTrees.{TypeBaseTree, Prim, Named, TypeUseTree}
 -- The left side of an assignment is a name, a field or an item of an array; in parentheses it is none (JLS 15.26).
 abbrev pub IsLeftSide : ExprTree → Type 0
 IsLeftSide (Name name) = Unit {0}
-IsLeftSide (Field value dot id) = Unit {0}
+IsLeftSide (Field operand dot id) = Unit {0}
 IsLeftSide (Super word dot id NoArgs) = Unit {0}
-IsLeftSide (Index value left index right) = Unit {0}
+IsLeftSide (Index operand left index right) = Unit {0}
 IsLeftSide expr = ⊥
 
 -- The third part of `?:` is no assignment (JLS 15.25).
@@ -101,35 +101,35 @@ pub record IsBinary (left : ExprTree) (op : Tok) (right : ExprTree) : Type 0 whe
   pub right_binds : BindsAt (binary_level op + 1) right
 
 -- `value instanceof T` (JLS 15.20.2)
-pub record IsInstance (value : ExprTree) (word : Tok) : Type 0 where
-  pub value_binds : BindsAt COMPARISON_LEVEL value
+pub record IsInstance (operand : ExprTree) (word : Tok) : Type 0 where
+  pub operand_binds : BindsAt COMPARISON_LEVEL operand
   pub word_is : IsKey INSTANCEOF word
 
 -- a prefix operator (JLS 15.15)
-pub record IsUnary (op : Tok) (value : ExprTree) : Type 0 where
+pub record IsUnary (op : Tok) (operand : ExprTree) : Type 0 where
   pub op_is : IsTrue (is_op_of PREFIXES op)
-  pub value_binds : BindsAt UNARY_LEVEL value
+  pub operand_binds : BindsAt UNARY_LEVEL operand
 
 -- `(T) value` (JLS 15.16)
-pub record IsCast (left : Tok) (sort : TypeUseTree) (right : Tok) (value : ExprTree) : Type 0 where
+pub record IsCast (left : Tok) (used_type : TypeUseTree) (right : Tok) (operand : ExprTree) : Type 0 where
   pub parens : AreParens left right
-  pub value_binds : BindsAt UNARY_LEVEL value
-  pub takes : CastTakes sort.base sort.dims.list (expr_yield value)
+  pub operand_binds : BindsAt UNARY_LEVEL operand
+  pub takes : CastTakes used_type.base used_type.dims.list (expr_yield operand)
 
 -- `value++` or `value--` (JLS 15.14)
-pub record IsPostfix (value : ExprTree) (op : Tok) : Type 0 where
-  pub value_binds : BindsAt POSTFIX_LEVEL value
+pub record IsPostfix (operand : ExprTree) (op : Tok) : Type 0 where
+  pub operand_binds : BindsAt POSTFIX_LEVEL operand
   pub op_is : IsTrue (is_op_of SUFFIXES op)
 
 -- what a method is called on: a name or another primary expression (JLS 15.12)
-pub record IsOn (value : ExprTree) (dot : Tok) : Type 0 where
-  pub primary : IsPrimary value
+pub record IsOn (operand : ExprTree) (dot : Tok) : Type 0 where
+  pub primary : IsPrimary operand
   pub dot_is : IsOp DOT dot
 
 -- `value.x` where the value is no name (JLS 15.11)
-pub record IsField (value : ExprTree) (dot id : Tok) : Type 0 where
-  pub primary : IsPrimary value
-  pub no_name : IsNoName value
+pub record IsField (operand : ExprTree) (dot id : Tok) : Type 0 where
+  pub primary : IsPrimary operand
+  pub no_name : IsNoName operand
   pub dot_is : IsOp DOT dot
   pub id_is : IsIdent id
 
@@ -140,36 +140,36 @@ pub record IsSuper (word dot id : Tok) : Type 0 where
   pub id_is : IsIdent id
 
 -- `value[index]` (JLS 15.13)
-pub record IsIndex (value : ExprTree) (left right : Tok) : Type 0 where
-  pub primary : IsPrimary value
-  pub no_new_array : IsNoNewArray value
+pub record IsIndex (operand : ExprTree) (left right : Tok) : Type 0 where
+  pub primary : IsPrimary operand
+  pub no_new_array : IsNoNewArray operand
   pub brackets : AreBrackets left right
 
 -- An expression fits (JLS 15).
 abbrev mutual
   pub ExprFits : ExprTree → Type 0
-  ExprFits (Assign left op value) = IsAssign left op × ExprFits left × ExprFits value
+  ExprFits (Assign left op operand) = IsAssign left op × ExprFits left × ExprFits operand
   ExprFits (Cond test mark then colon other) = IsCond test mark colon other × ExprFits test × ExprFits then × ExprFits other
   ExprFits (Binary left op right) = IsBinary left op right × ExprFits left × ExprFits right
-  ExprFits (Instance value word sort) = IsInstance value word × ExprFits value × TypeFits sort
-  ExprFits (Unary op value) = IsUnary op value × ExprFits value
-  ExprFits (Cast left sort right value) = IsCast left sort right value × TypeFits sort × ExprFits value
-  ExprFits (Postfix value op) = IsPostfix value op × ExprFits value
+  ExprFits (Instance operand word used_type) = IsInstance operand word × ExprFits operand × TypeFits used_type
+  ExprFits (Unary op operand) = IsUnary op operand × ExprFits operand
+  ExprFits (Cast left used_type right operand) = IsCast left used_type right operand × TypeFits used_type × ExprFits operand
+  ExprFits (Postfix operand op) = IsPostfix operand op × ExprFits operand
   ExprFits (Lit tok) = IsTrue (is_literal tok)
   ExprFits (This tok) = IsKey THIS tok
-  ExprFits (Paren left value right) = AreParens left right × ExprFits value
+  ExprFits (Paren left operand right) = AreParens left right × ExprFits operand
   ExprFits (Name name) = NameFits name
   ExprFits (Call on id args) = OnFits on × IsIdent id × ArgsFit args
-  ExprFits (Field value dot id) = IsField value dot id × ExprFits value
+  ExprFits (Field operand dot id) = IsField operand dot id × ExprFits operand
   ExprFits (Super word dot id args) = IsSuper word dot id × SuperArgsFit args
   ExprFits (New word name args) = IsKey NEW word × NameFits name × ArgsFit args
-  ExprFits (Index value left index right) = IsIndex value left right × ExprFits value × ExprFits index
+  ExprFits (Index operand left index right) = IsIndex operand left right × ExprFits operand × ExprFits index
   ExprFits (NewArray word base sizes dims) = IsKey NEW word × BaseFits base × HasSize sizes × SizesFit sizes × DimsFit dims
   ExprFits (NewInit word base dims init) = IsKey NEW word × BaseFits base × HasBrackets dims × DimsFit dims × BracesFit init
 
   pub OnFits : OnTree → Type 0
   OnFits NoOn = Unit {0}
-  OnFits (On value dot) = IsOn value dot × ExprFits value
+  OnFits (On operand dot) = IsOn operand dot × ExprFits operand
 
   pub ArgsFit : ArgsTree → Type 0
   ArgsFit (Args left list right) = AreParens left right × ExprsFit list
@@ -192,7 +192,7 @@ abbrev mutual
 
   -- what a variable or an array item begins with (JLS 8.3, 10.6)
   pub InitFits : InitTree → Type 0
-  InitFits (Value value) = ExprFits value
+  InitFits (Expression operand) = ExprFits operand
   InitFits (Braced braces) = BracesFit braces
 
   -- items in braces, with a comma behind the last one or without (JLS 10.6)

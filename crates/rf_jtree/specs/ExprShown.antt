@@ -48,27 +48,27 @@ inits_tree (Some many) = t.Inits many.first.value (more_inits_tree many.rest)
 
 -- the layers
 abbrev pub expr_layer : Expr-F ExprTree InitTree ArgsTree BracesTree → ExprTree
-expr_layer (Expr-F.Assign left op value) = t.Assign left.value op value.value
+expr_layer (Expr-F.Assign left op operand) = t.Assign left.value op operand.value
 expr_layer (Expr-F.Cond test mark first colon other) = t.Cond test.value mark.value first.value colon.value other.value
 expr_layer (Expr-F.Binary left op right) = t.Binary left.value op right.value
-expr_layer (Expr-F.Instance value word sort) = t.Instance value.value word (type_shown sort.value)
-expr_layer (Expr-F.Unary op value) = t.Unary op value.value
-expr_layer (Expr-F.Cast left sort right value) = t.Cast left (type_shown sort.value) right.value value.value
-expr_layer (Expr-F.Postfix value op) = t.Postfix value.value op
+expr_layer (Expr-F.Instance operand word used_type) = t.Instance operand.value word (type_shown used_type.value)
+expr_layer (Expr-F.Unary op operand) = t.Unary op operand.value
+expr_layer (Expr-F.Cast left used_type right operand) = t.Cast left (type_shown used_type.value) right.value operand.value
+expr_layer (Expr-F.Postfix operand op) = t.Postfix operand.value op
 expr_layer (Expr-F.Lit tok) = t.Lit tok
 expr_layer (Expr-F.This tok) = t.This tok
-expr_layer (Expr-F.Paren left value right) = t.Paren left value.value right.value
+expr_layer (Expr-F.Paren left operand right) = t.Paren left operand.value right.value
 expr_layer (Expr-F.Name name) = t.Name (name_shown name)
 expr_layer (Expr-F.Call on id args) = t.Call (on_tree on) id args.value
-expr_layer (Expr-F.Field value dot id) = t.Field value.value dot.value id
+expr_layer (Expr-F.Field operand dot id) = t.Field operand.value dot.value id
 expr_layer (Expr-F.Super word dot id args) = t.Super word.value dot.value id.value (boxed_args_tree args)
 expr_layer (Expr-F.New word name args) = t.New word (name_shown name.value) args.value
-expr_layer (Expr-F.Index value left index right) = t.Index value.value left index.value right.value
+expr_layer (Expr-F.Index operand left index right) = t.Index operand.value left index.value right.value
 expr_layer (Expr-F.NewArray word base sizes dims) = t.NewArray word.value (base_shown base.value) (sizes_tree sizes) dims
 expr_layer (Expr-F.NewInit word base dims init) = t.NewInit word.value (base_shown base.value) dims init.value
 
 abbrev pub init_layer : Init-F ExprTree InitTree ArgsTree BracesTree → InitTree
-init_layer (Init-F.Value value) = t.Value value.value
+init_layer (Init-F.Expression operand) = t.Expression operand.value
 init_layer (Init-F.Braced braces) = t.Braced braces.value
 
 abbrev pub args_layer : Args-F ExprTree InitTree ArgsTree BracesTree → ArgsTree

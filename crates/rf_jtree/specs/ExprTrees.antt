@@ -58,7 +58,7 @@ mutual
 
   -- what a variable or an array item begins with: an expression, or items in braces (JLS 8.3, 10.6)
   pub data InitTree : Type 0 where
-    Value : ExprTree → InitTree
+    Expression : ExprTree → InitTree
     Braced : BracesTree → InitTree
 
   -- items in braces, with a comma behind the last one or without (JLS 10.6)
@@ -77,28 +77,28 @@ mutual
 -- the tokens from left to right
 abbrev mutual
   pub expr_yield : ExprTree → List Tok
-  expr_yield (Assign left op value) = expr_yield left ++ op ∷ expr_yield value
+  expr_yield (Assign left op operand) = expr_yield left ++ op ∷ expr_yield operand
   expr_yield (Cond test mark then colon other) = expr_yield test ++ mark ∷ (expr_yield then ++ colon ∷ expr_yield other)
   expr_yield (Binary left op right) = expr_yield left ++ op ∷ expr_yield right
-  expr_yield (Instance value word sort) = expr_yield value ++ word ∷ type_yield sort
-  expr_yield (Unary op value) = op ∷ expr_yield value
-  expr_yield (Cast left sort right value) = left ∷ (type_yield sort ++ right ∷ expr_yield value)
-  expr_yield (Postfix value op) = expr_yield value ++ op ∷ []
+  expr_yield (Instance operand word used_type) = expr_yield operand ++ word ∷ type_yield used_type
+  expr_yield (Unary op operand) = op ∷ expr_yield operand
+  expr_yield (Cast left used_type right operand) = left ∷ (type_yield used_type ++ right ∷ expr_yield operand)
+  expr_yield (Postfix operand op) = expr_yield operand ++ op ∷ []
   expr_yield (Lit tok) = tok ∷ []
   expr_yield (This tok) = tok ∷ []
-  expr_yield (Paren left value right) = left ∷ (expr_yield value ++ right ∷ [])
+  expr_yield (Paren left operand right) = left ∷ (expr_yield operand ++ right ∷ [])
   expr_yield (Name name) = name_yield name
   expr_yield (Call on id args) = on_yield on ++ id ∷ args_yield args
-  expr_yield (Field value dot id) = expr_yield value ++ dot ∷ id ∷ []
+  expr_yield (Field operand dot id) = expr_yield operand ++ dot ∷ id ∷ []
   expr_yield (Super word dot id args) = word ∷ dot ∷ id ∷ super_args_yield args
   expr_yield (New word name args) = word ∷ (name_yield name ++ args_yield args)
-  expr_yield (Index value left index right) = expr_yield value ++ left ∷ (expr_yield index ++ right ∷ [])
+  expr_yield (Index operand left index right) = expr_yield operand ++ left ∷ (expr_yield index ++ right ∷ [])
   expr_yield (NewArray word base sizes dims) = word ∷ (base_yield base ++ (sizes_yield sizes ++ dims_yield dims))
   expr_yield (NewInit word base dims init) = word ∷ (base_yield base ++ (dims_yield dims ++ braces_yield init))
 
   pub on_yield : OnTree → List Tok
   on_yield NoOn = []
-  on_yield (On value dot) = expr_yield value ++ dot ∷ []
+  on_yield (On operand dot) = expr_yield operand ++ dot ∷ []
 
   pub args_yield : ArgsTree → List Tok
   args_yield (Args left list right) = left ∷ (exprs_yield list ++ right ∷ [])
@@ -120,7 +120,7 @@ abbrev mutual
   sizes_yield (Sizes left size right rest) = left ∷ (expr_yield size ++ right ∷ sizes_yield rest)
 
   pub init_yield : InitTree → List Tok
-  init_yield (Value value) = expr_yield value
+  init_yield (Expression operand) = expr_yield operand
   init_yield (Braced braces) = braces_yield braces
 
   pub braces_yield : BracesTree → List Tok
@@ -138,29 +138,29 @@ abbrev mutual
 -- Items in braces have one more than the deepest of them; the braces of a new array are no level of their own.
 abbrev mutual
   pub expr_depth : ExprTree → ℕ
-  expr_depth (Assign left op value) = max (expr_depth left) (expr_depth value) + 1
+  expr_depth (Assign left op operand) = max (expr_depth left) (expr_depth operand) + 1
   expr_depth (Cond test mark then colon other) = max (expr_depth test) (max (expr_depth then) (expr_depth other)) + 1
   expr_depth (Binary left op right) = max (expr_depth left) (expr_depth right) + 1
-  expr_depth (Instance value word sort) = expr_depth value + 1
-  expr_depth (Unary op value) = expr_depth value + 1
-  expr_depth (Cast left sort right value) = expr_depth value + 1
-  expr_depth (Postfix value op) = expr_depth value + 1
+  expr_depth (Instance operand word used_type) = expr_depth operand + 1
+  expr_depth (Unary op operand) = expr_depth operand + 1
+  expr_depth (Cast left used_type right operand) = expr_depth operand + 1
+  expr_depth (Postfix operand op) = expr_depth operand + 1
   expr_depth (Lit tok) = 1
   expr_depth (This tok) = 1
-  expr_depth (Paren left value right) = expr_depth value + 1
+  expr_depth (Paren left operand right) = expr_depth operand + 1
   expr_depth (Name name) = 1
   expr_depth (Call on id args) = max (on_depth on) (args_depth args) + 1
-  expr_depth (Field value dot id) = expr_depth value + 1
+  expr_depth (Field operand dot id) = expr_depth operand + 1
   expr_depth (Super word dot id args) = super_args_depth args + 1
   expr_depth (New word name args) = args_depth args + 1
-  expr_depth (Index value left index right) = max (expr_depth value) (expr_depth index) + 1
+  expr_depth (Index operand left index right) = max (expr_depth operand) (expr_depth index) + 1
   expr_depth (NewArray word base sizes dims) = sizes_depth sizes + 1
   expr_depth (NewInit word base dims init) = braces_depth init + 1
 
   -- the deepest expression in it, 0 where there is none
   pub on_depth : OnTree → ℕ
   on_depth NoOn = 0
-  on_depth (On value dot) = expr_depth value
+  on_depth (On operand dot) = expr_depth operand
 
   pub args_depth : ArgsTree → ℕ
   args_depth (Args left list right) = exprs_depth list
@@ -182,7 +182,7 @@ abbrev mutual
   sizes_depth (Sizes left size right rest) = max (expr_depth size) (sizes_depth rest)
 
   pub init_depth : InitTree → ℕ
-  init_depth (Value value) = expr_depth value
+  init_depth (Expression operand) = expr_depth operand
   init_depth (Braced braces) = braces_depth braces + 1
 
   -- the deepest item, 0 where there is none

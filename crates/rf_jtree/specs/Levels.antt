@@ -33,13 +33,13 @@ binary_level tok = kind_level tok.kind
 
 -- the level of an expression
 abbrev pub expr_level : ExprTree → ℕ
-expr_level (Assign left op value) = ASSIGNMENT_LEVEL
+expr_level (Assign left op operand) = ASSIGNMENT_LEVEL
 expr_level (Cond test mark first colon other) = CONDITIONAL_LEVEL
 expr_level (Binary left op right) = binary_level op
-expr_level (Instance value word sort) = COMPARISON_LEVEL
-expr_level (Unary op value) = UNARY_LEVEL
-expr_level (Cast left sort right value) = UNARY_LEVEL
-expr_level (Postfix value op) = POSTFIX_LEVEL
+expr_level (Instance operand word used_type) = COMPARISON_LEVEL
+expr_level (Unary op operand) = UNARY_LEVEL
+expr_level (Cast left used_type right operand) = UNARY_LEVEL
+expr_level (Postfix operand op) = POSTFIX_LEVEL
 expr_level primary = PRIMARY_LEVEL
 
 -- an expression may stand where one of this level is wanted: it binds as tightly, or more

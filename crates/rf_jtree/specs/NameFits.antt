@@ -38,7 +38,7 @@ BaseFits (Named name) = NameFits name
 
 -- the use of a type (JLS 4.1)
 abbrev pub TypeFits : TypeUseTree → Type 0
-TypeFits sort = BaseFits sort.base × DimsFit sort.dims
+TypeFits used_type = BaseFits used_type.base × DimsFit used_type.dims
 
 -- the annotations that may stand are `@Override`, `@Deprecated` and `@SuppressWarnings` (JLS 9.6.3)
 abbrev pub IsMarkName : Tok → Type 0

@@ -31,7 +31,7 @@ base_shown (b.Prim tok) = t.Prim tok
 base_shown (b.Named name) = t.Named (name_shown name)
 
 abbrev pub type_shown : TypeUse → TypeUseTree
-type_shown sort = record { base = base_shown sort.base; dims = sort.dims }
+type_shown used_type = record { base = base_shown used_type.base; dims = used_type.dims }
 
 abbrev pub strs_shown : Strs → StrsTree
 strs_shown (s.One tok) = t.One tok

@@ -64,7 +64,7 @@ base_yield (Prim tok) = tok ∷ []
 base_yield (Named name) = name_yield name
 
 abbrev pub type_yield : TypeUseTree → List Tok
-type_yield sort = base_yield sort.base ++ dims_yield sort.dims
+type_yield used_type = base_yield used_type.base ++ dims_yield used_type.dims
 
 abbrev pub strs_yield : StrsTree → List Tok
 strs_yield (One tok) = tok ∷ []

@@ -10,7 +10,7 @@ use Rattle.rf_jtree.specs.ExprTrees.{ExprTree, Assign, Unary, Postfix, Call, Sup
 use Rattle.rf_jtree.specs.Kinds.{IsOp, IsKey, IsIdent, AreParens, AreBraces, is_op_of}
 use Rattle.rf_jtree.specs.NameFits.{EachFits, ManyFit, NameFits, DimsFit, TypeFits, ModsFit}
 use Rattle.rf_jtree.specs.NameTrees.{ModTree, Word}
-use Rattle.rf_jtree.specs.StmtTrees.{VarTree, LocalTree, ForFirstTree, StmtTree, Block, Empty, Label, Value, If, While, Do, For, Each, Switch, Jump, Return, Throw, Sync, Assert, Try}
+use Rattle.rf_jtree.specs.StmtTrees.{VarTree, LocalTree, ForFirstTree, StmtTree, Block, Empty, Label, Expression, If, While, Do, For, Each, Switch, Jump, Return, Throw, Sync, Assert, Try}
 use Rattle.rf_jtree.specs.StmtTrees.{BlockTree, Braces, StmtsTree, NoStmts, Stmts, OtherTree, NoOther, Other, GroupTree, Group, GroupsTree, NoGroups, Groups, CatchTree, Catch, CatchesTree, NoCatches, Catches, LastTree, NoLast, Last}
 
 -- A local variable or a parameter has `final` and annotations alone (JLS 8.4.1, 14.4).
@@ -34,7 +34,7 @@ pub record VarFits (var : VarTree) : Type 0 where
 -- a local declaration, without its `;` (JLS 14.4)
 pub record LocalFits (local : LocalTree) : Type 0 where
   pub mods_fit : VariableModsFit local.mods
-  pub sort_fits : TypeFits local.sort
+  pub used_type_fits : TypeFits local.used_type
   pub vars_fit : ManyFit VarFits COMMA local.vars
 
 -- A local declaration stands in braces or behind a label of a `switch` alone, so it is no part of another statement
@@ -46,9 +46,9 @@ IsNoLocal stmt = Unit {0}
 -- An expression that is a statement is an assignment, has `++` or `--`, is a call, or is a new object and no new array
 -- (JLS 14.8).
 abbrev pub IsStatementExpr : ExprTree → Type 0
-IsStatementExpr (Assign left op value) = Unit {0}
-IsStatementExpr (Unary op value) = IsTrue (is_op_of SUFFIXES op)
-IsStatementExpr (Postfix value op) = Unit {0}
+IsStatementExpr (Assign left op expression) = Unit {0}
+IsStatementExpr (Unary op expression) = IsTrue (is_op_of SUFFIXES op)
+IsStatementExpr (Postfix expression op) = Unit {0}
 IsStatementExpr (Call on id args) = Unit {0}
 IsStatementExpr (Super word dot id (SuperArgs args)) = Unit {0}
 IsStatementExpr (New word name args) = Unit {0}
@@ -75,7 +75,7 @@ abbrev mutual
   ends_open (If word left test right then other) = other_ends_open other
   ends_open (While word left test right body) = ends_open body
   ends_open (For word left first semi1 test semi2 last right body) = ends_open body
-  ends_open (Each word left mods sort id colon over right body) = ends_open body
+  ends_open (Each word left mods used_type id colon over right body) = ends_open body
   ends_open stmt = false
 
   pub other_ends_open : OtherTree → Bool
@@ -110,8 +110,8 @@ pub record IsLabel (id colon : Tok) (body : StmtTree) : Type 0 where
   pub no_local : IsNoLocal body
 
 -- an expression and `;` (JLS 14.8)
-pub record IsValue (value : ExprTree) (semi : Tok) : Type 0 where
-  pub statement : IsStatementExpr value
+pub record IsExpressionStmt (expression : ExprTree) (semi : Tok) : Type 0 where
+  pub statement : IsStatementExpr expression
   pub semi_is : IsOp SEMICOLON semi
 
 -- `if (..) then`, with an `else` or without (JLS 14.9)
@@ -156,7 +156,7 @@ pub record IsSwitch (word left right brace end : Tok) : Type 0 where
 -- `case value:`, or `default:` without a value (JLS 14.11)
 abbrev pub IsGroupWord : Tok → Option ExprTree → Type 0
 IsGroupWord word None = IsKey DEFAULT word
-IsGroupWord word (Some value) = IsKey CASE word
+IsGroupWord word (Some expression) = IsKey CASE word
 
 -- `break` or `continue`, with a label or without (JLS 14.15, 14.16)
 pub record IsJump (word : Tok) (label : Option Tok) (semi : Tok) : Type 0 where
@@ -191,18 +191,18 @@ abbrev mutual
   StmtFits (Empty semi) = IsOp SEMICOLON semi
   StmtFits (StmtTree.Local local semi) = LocalFits local × IsOp SEMICOLON semi
   StmtFits (Label id colon body) = IsLabel id colon body × StmtFits body
-  StmtFits (Value value semi) = IsValue value semi × ExprFits value
+  StmtFits (Expression expression semi) = IsExpressionStmt expression semi × ExprFits expression
   StmtFits (If word left test right then other) = IsIf word left right then other × ExprFits test × StmtFits then × OtherFits other
   StmtFits (While word left test right body) = IsWhile word left right body × ExprFits test × StmtFits body
   StmtFits (Do word body until left test right semi) = IsDo word body until left right semi × StmtFits body × ExprFits test
   StmtFits (For word left first semi1 test semi2 last right body) =
       IsFor word left semi1 semi2 last right body × FirstFits first × IfSome test ExprFits × ExprsFit last × StmtFits body
-  StmtFits (Each word left mods sort id colon over right body) =
-      IsEach word left mods id colon right body × TypeFits sort × ExprFits over × StmtFits body
+  StmtFits (Each word left mods used_type id colon over right body) =
+      IsEach word left mods id colon right body × TypeFits used_type × ExprFits over × StmtFits body
   StmtFits (Switch word left on right brace groups end) = IsSwitch word left right brace end × ExprFits on × GroupsFit groups
   StmtFits (Jump word label semi) = IsJump word label semi
-  StmtFits (Return word value semi) = IsExit RETURN word semi × IfSome value ExprFits
-  StmtFits (Throw word value semi) = IsExit THROW word semi × ExprFits value
+  StmtFits (Return word expression semi) = IsExit RETURN word semi × IfSome expression ExprFits
+  StmtFits (Throw word expression semi) = IsExit THROW word semi × ExprFits expression
   StmtFits (Sync word left on right body) = IsHead SYNCHRONIZED word left right × ExprFits on × BlockFits body
   StmtFits (Assert word test message semi) = IsExit ASSERT word semi × ExprFits test × IfSome message MessageFits
   StmtFits (Try word body catches last) = IsTry word catches last × BlockFits body × CatchesFit catches × LastFits last
@@ -220,7 +220,7 @@ abbrev mutual
   OtherFits (Other word stmt) = IsKey ELSE word × IsNoLocal stmt × StmtFits stmt
 
   pub GroupFits : GroupTree → Type 0
-  GroupFits (Group word value colon body) = IsGroupWord word value × IfSome value ExprFits × IsOp COLON colon × StmtsFit body
+  GroupFits (Group word expression colon body) = IsGroupWord word expression × IfSome expression ExprFits × IsOp COLON colon × StmtsFit body
 
   pub GroupsFit : GroupsTree → Type 0
   GroupsFit NoGroups = Unit {0}

@@ -34,7 +34,7 @@ abbrev pub more_vars_shown : List (Tok × Var) → List (Tok × VarTree)
 more_vars_shown rest = map (λ item. (item.0, var_shown item.1)) rest
 
 abbrev pub local_shown : Local → LocalTree
-local_shown local = record { mods = mods_shown local.mods; sort = type_shown local.sort; vars = many_shown var_shown local.vars }
+local_shown local = record { mods = mods_shown local.mods; used_type = type_shown local.used_type; vars = many_shown var_shown local.vars }
 
 abbrev pub first_shown : ForFirst → ForFirstTree
 first_shown (f.Local local) = t.ForFirstTree.Local (local_shown local)
@@ -45,7 +45,7 @@ abbrev pub boxed_expr_shown : Box Expr Global → ExprTree
 boxed_expr_shown boxed = expr_shown boxed.value
 
 abbrev pub optional_expr_shown : Option (Box Expr Global) → Option ExprTree
-optional_expr_shown value = option_map boxed_expr_shown value
+optional_expr_shown expression = option_map boxed_expr_shown expression
 
 -- the second expression of an `assert`
 abbrev pub message_shown : Tok × Box Expr Global → Tok × ExprTree
@@ -53,13 +53,13 @@ message_shown message = (message.0, boxed_expr_shown message.1)
 
 -- statements of what stands before their bodies
 abbrev pub if_tree : Head → StmtTree → OtherTree → StmtTree
-if_tree head then other = t.If head.word head.left (boxed_expr_shown head.value) head.right then other
+if_tree head then other = t.If head.word head.left (boxed_expr_shown head.expression) head.right then other
 
 abbrev pub while_tree : Head → StmtTree → StmtTree
-while_tree head body = t.While head.word head.left (boxed_expr_shown head.value) head.right body
+while_tree head body = t.While head.word head.left (boxed_expr_shown head.expression) head.right body
 
 abbrev pub do_tree : Tok → StmtTree → Head → Tok → StmtTree
-do_tree word body until semi = t.Do word body until.word until.left (boxed_expr_shown until.value) until.right semi
+do_tree word body until semi = t.Do word body until.word until.left (boxed_expr_shown until.expression) until.right semi
 
 abbrev pub for_tree : ForHead → StmtTree → StmtTree
 for_tree head body =
@@ -67,13 +67,13 @@ for_tree head body =
 
 abbrev pub each_tree : EachHead → StmtTree → StmtTree
 each_tree head body =
-    t.Each head.word head.left (mods_shown head.mods) (type_shown head.sort) head.id head.colon (boxed_expr_shown head.over) head.right body
+    t.Each head.word head.left (mods_shown head.mods) (type_shown head.used_type) head.id head.colon (boxed_expr_shown head.over) head.right body
 
 abbrev pub switch_tree : Head → Tok → GroupsTree → Tok → StmtTree
-switch_tree head brace groups end = t.Switch head.word head.left (boxed_expr_shown head.value) head.right brace groups end
+switch_tree head brace groups end = t.Switch head.word head.left (boxed_expr_shown head.expression) head.right brace groups end
 
 abbrev pub sync_tree : Head → BlockTree → StmtTree
-sync_tree head body = t.Sync head.word head.left (boxed_expr_shown head.value) head.right body
+sync_tree head body = t.Sync head.word head.left (boxed_expr_shown head.expression) head.right body
 
 -- lists, and parts that may be left out, of trees
 abbrev pub stmts_tree : List StmtTree → StmtsTree
@@ -102,7 +102,7 @@ stmt_layer (Stmt-F.Block block) = t.Block block
 stmt_layer (Stmt-F.Empty semi) = t.Empty semi
 stmt_layer (Stmt-F.Local local semi) = t.StmtTree.Local (local_shown local.value) semi
 stmt_layer (Stmt-F.Label id colon body) = t.Label id colon body.value
-stmt_layer (Stmt-F.Value value semi) = t.Value (boxed_expr_shown value) semi
+stmt_layer (Stmt-F.Expression expression semi) = t.Expression (boxed_expr_shown expression) semi
 stmt_layer (Stmt-F.If head then other) = if_tree head.value then.value (other_tree other)
 stmt_layer (Stmt-F.While head body) = while_tree head.value body.value
 stmt_layer (Stmt-F.Do word body until semi) = do_tree word body.value until.value semi
@@ -110,8 +110,8 @@ stmt_layer (Stmt-F.For head body) = for_tree head.value body.value
 stmt_layer (Stmt-F.Each head body) = each_tree head.value body.value
 stmt_layer (Stmt-F.Switch head brace groups end) = switch_tree head.value brace (groups_tree groups) end
 stmt_layer (Stmt-F.Jump word label semi) = t.Jump word label semi
-stmt_layer (Stmt-F.Return word value semi) = t.Return word (optional_expr_shown value) semi
-stmt_layer (Stmt-F.Throw word value semi) = t.Throw word (boxed_expr_shown value) semi
+stmt_layer (Stmt-F.Return word expression semi) = t.Return word (optional_expr_shown expression) semi
+stmt_layer (Stmt-F.Throw word expression semi) = t.Throw word (boxed_expr_shown expression) semi
 stmt_layer (Stmt-F.Sync head body) = sync_tree head.value body.value
 stmt_layer (Stmt-F.Assert word test message semi) = t.Assert word (boxed_expr_shown test) (option_map message_shown message) semi
 stmt_layer (Stmt-F.Try word body catches last) = t.Try word body.value (catches_tree catches) (last_tree last)
@@ -123,7 +123,7 @@ abbrev pub catch_layer : Catch-F StmtTree BlockTree CatchTree GroupTree → Catc
 catch_layer part = t.Catch part.word part.left part.fixed (name_shown part.name) part.id part.right part.body
 
 abbrev pub group_layer : Group-F StmtTree BlockTree CatchTree GroupTree → GroupTree
-group_layer group = t.Group group.word (optional_expr_shown group.value) group.colon (stmts_tree group.body)
+group_layer group = t.Group group.word (optional_expr_shown group.expression) group.colon (stmts_tree group.body)
 
 -- the trees
 unfoldable pub stmt_shown : Stmt → StmtTree

@@ -16,7 +16,7 @@ pub record VarTree : Type 0 where
 -- a local declaration, without its `;` (JLS 14.4)
 pub record LocalTree : Type 0 where
   pub mods : List ModTree
-  pub sort : TypeUseTree
+  pub used_type : TypeUseTree
   pub vars : ManyTree VarTree
 
 -- what a basic `for` begins with: a local declaration, or expressions (JLS 14.14.1)
@@ -31,12 +31,12 @@ mutual
     Empty : Tok → StmtTree
     Local : LocalTree → Tok → StmtTree
     Label : Tok → Tok → StmtTree → StmtTree
-    Value : ExprTree → Tok → StmtTree
+    Expression : ExprTree → Tok → StmtTree
     If : (word left : Tok) (test : ExprTree) (right : Tok) (then : StmtTree) (other : OtherTree) → StmtTree
     While : (word left : Tok) (test : ExprTree) (right : Tok) (body : StmtTree) → StmtTree
     Do : (word : Tok) (body : StmtTree) (until left : Tok) (test : ExprTree) (right semi : Tok) → StmtTree
     For : (word left : Tok) (first : ForFirstTree) (semi1 : Tok) (test : Option ExprTree) (semi2 : Tok) (last : ExprsTree) (right : Tok) (body : StmtTree) → StmtTree
-    Each : (word left : Tok) (mods : List ModTree) (sort : TypeUseTree) (id colon : Tok) (over : ExprTree) (right : Tok) (body : StmtTree) → StmtTree
+    Each : (word left : Tok) (mods : List ModTree) (used_type : TypeUseTree) (id colon : Tok) (over : ExprTree) (right : Tok) (body : StmtTree) → StmtTree
     Switch : (word left : Tok) (on : ExprTree) (right brace : Tok) (groups : GroupsTree) (end : Tok) → StmtTree
     Jump : Tok → Option Tok → Tok → StmtTree
     Return : Tok → Option ExprTree → Tok → StmtTree
@@ -60,7 +60,7 @@ mutual
 
   -- `case value:` or `default:` with the statements up to the next one (JLS 14.11)
   pub data GroupTree : Type 0 where
-    Group : (word : Tok) (value : Option ExprTree) (colon : Tok) (body : StmtsTree) → GroupTree
+    Group : (word : Tok) (expression : Option ExprTree) (colon : Tok) (body : StmtsTree) → GroupTree
 
   pub data GroupsTree : Type 0 where
     NoGroups : GroupsTree
@@ -84,7 +84,7 @@ abbrev pub var_yield : VarTree → List Tok
 var_yield var = var.id ∷ (dims_yield var.dims ++ option_yield (behind_yield init_yield) var.init)
 
 abbrev pub local_yield : LocalTree → List Tok
-local_yield local = mods_yield local.mods ++ (type_yield local.sort ++ many_yield var_yield local.vars)
+local_yield local = mods_yield local.mods ++ (type_yield local.used_type ++ many_yield var_yield local.vars)
 
 abbrev pub first_yield : ForFirstTree → List Tok
 first_yield (ForFirstTree.Local local) = local_yield local
@@ -96,18 +96,18 @@ abbrev mutual
   stmt_yield (Empty semi) = semi ∷ []
   stmt_yield (StmtTree.Local local semi) = local_yield local ++ semi ∷ []
   stmt_yield (Label id colon body) = id ∷ colon ∷ stmt_yield body
-  stmt_yield (Value value semi) = expr_yield value ++ semi ∷ []
+  stmt_yield (Expression expression semi) = expr_yield expression ++ semi ∷ []
   stmt_yield (If word left test right then other) = word ∷ left ∷ (expr_yield test ++ right ∷ (stmt_yield then ++ other_yield other))
   stmt_yield (While word left test right body) = word ∷ left ∷ (expr_yield test ++ right ∷ stmt_yield body)
   stmt_yield (Do word body until left test right semi) = word ∷ (stmt_yield body ++ until ∷ left ∷ (expr_yield test ++ right ∷ semi ∷ []))
   stmt_yield (For word left first semi1 test semi2 last right body) =
       word ∷ left ∷ (first_yield first ++ semi1 ∷ (option_yield expr_yield test ++ semi2 ∷ (exprs_yield last ++ right ∷ stmt_yield body)))
-  stmt_yield (Each word left mods sort id colon over right body) =
-      word ∷ left ∷ (mods_yield mods ++ (type_yield sort ++ id ∷ colon ∷ (expr_yield over ++ right ∷ stmt_yield body)))
+  stmt_yield (Each word left mods used_type id colon over right body) =
+      word ∷ left ∷ (mods_yield mods ++ (type_yield used_type ++ id ∷ colon ∷ (expr_yield over ++ right ∷ stmt_yield body)))
   stmt_yield (Switch word left on right brace groups end) = word ∷ left ∷ (expr_yield on ++ right ∷ brace ∷ (groups_yield groups ++ end ∷ []))
   stmt_yield (Jump word label semi) = word ∷ (option_yield tok_yield label ++ semi ∷ [])
-  stmt_yield (Return word value semi) = word ∷ (option_yield expr_yield value ++ semi ∷ [])
-  stmt_yield (Throw word value semi) = word ∷ (expr_yield value ++ semi ∷ [])
+  stmt_yield (Return word expression semi) = word ∷ (option_yield expr_yield expression ++ semi ∷ [])
+  stmt_yield (Throw word expression semi) = word ∷ (expr_yield expression ++ semi ∷ [])
   stmt_yield (Sync word left on right body) = word ∷ left ∷ (expr_yield on ++ right ∷ block_yield body)
   stmt_yield (Assert word test message semi) = word ∷ (expr_yield test ++ (option_yield (behind_yield expr_yield) message ++ semi ∷ []))
   stmt_yield (Try word body catches last) = word ∷ (block_yield body ++ (catches_yield catches ++ last_yield last))
@@ -124,7 +124,7 @@ abbrev mutual
   other_yield (Other word stmt) = word ∷ stmt_yield stmt
 
   pub group_yield : GroupTree → List Tok
-  group_yield (Group word value colon body) = word ∷ (option_yield expr_yield value ++ colon ∷ stmts_yield body)
+  group_yield (Group word expression colon body) = word ∷ (option_yield expr_yield expression ++ colon ∷ stmts_yield body)
 
   pub groups_yield : GroupsTree → List Tok
   groups_yield NoGroups = []
@@ -160,17 +160,17 @@ abbrev mutual
   stmt_depth (Empty semi) = 1
   stmt_depth (StmtTree.Local local semi) = local_depth local + 1
   stmt_depth (Label id colon body) = stmt_depth body + 1
-  stmt_depth (Value value semi) = expr_depth value + 1
+  stmt_depth (Expression expression semi) = expr_depth expression + 1
   stmt_depth (If word left test right then other) = max (expr_depth test) (max (stmt_depth then) (other_depth other)) + 1
   stmt_depth (While word left test right body) = max (expr_depth test) (stmt_depth body) + 1
   stmt_depth (Do word body until left test right semi) = max (stmt_depth body) (expr_depth test) + 1
   stmt_depth (For word left first semi1 test semi2 last right body) =
       max (first_depth first) (max (option_depth expr_depth test) (max (exprs_depth last) (stmt_depth body))) + 1
-  stmt_depth (Each word left mods sort id colon over right body) = max (expr_depth over) (stmt_depth body) + 1
+  stmt_depth (Each word left mods used_type id colon over right body) = max (expr_depth over) (stmt_depth body) + 1
   stmt_depth (Switch word left on right brace groups end) = max (expr_depth on) (groups_depth groups) + 1
   stmt_depth (Jump word label semi) = 1
-  stmt_depth (Return word value semi) = option_depth expr_depth value + 1
-  stmt_depth (Throw word value semi) = expr_depth value + 1
+  stmt_depth (Return word expression semi) = option_depth expr_depth expression + 1
+  stmt_depth (Throw word expression semi) = expr_depth expression + 1
   stmt_depth (Sync word left on right body) = max (expr_depth on) (block_depth body) + 1
   stmt_depth (Assert word test message semi) = max (expr_depth test) (option_depth (λ part. expr_depth part.1) message) + 1
   stmt_depth (Try word body catches last) = max (block_depth body) (max (catches_depth catches) (last_depth last)) + 1
@@ -187,7 +187,7 @@ abbrev mutual
   other_depth (Other word stmt) = stmt_depth stmt
 
   pub group_depth : GroupTree → ℕ
-  group_depth (Group word value colon body) = max (option_depth expr_depth value) (stmts_depth body)
+  group_depth (Group word expression colon body) = max (option_depth expr_depth expression) (stmts_depth body)
 
   pub groups_depth : GroupsTree → ℕ
   groups_depth NoGroups = 0

@@ -5,7 +5,7 @@ use Rattle.rf_text.specs.declared.span.Span.{Span}
 use Rattle.rf_jtree.specs.declared.tokens.Tok.{Tok}
 use Rattle.rf_jtree.specs.Tokens.{tok_bytes}
 
--- so many bytes of a file from this place on
+-- so many bytes of a file from this offset on
 abbrev pub span_at : ℕ → ℕ → ℕ → Span
 span_at file from size = record { file = file; from = from; to = from + size }
 

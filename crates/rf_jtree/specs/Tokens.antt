@@ -1,4 +1,4 @@
--- The tokens of a text (JLS 3.2, 3.5): trivia and tokens, each the longest match at its place.
+-- The tokens of a text (JLS 3.2, 3.5): trivia and tokens, each the longest match at its offset.
 use Rattle.std.specs.Prelude.{◌≡◌, ℕ, ◌<◌, ◌≤◌, Bool, true, false, ◌||◌, List, [], ◌∷◌, ◌++◌, Some, length, drop, nat_eq, codes}
 use Rattle.std.specs.List.{starts_with, flat_map}
 use Rattle.rf_jtree.specs.declared.tokens.Tok.{Tok}
@@ -49,7 +49,7 @@ IsAtLineEnd (byte ∷ bytes) = is_line_end byte ≡ true
 abbrev pub begins_comment : List ℕ → Bool
 begins_comment text = starts_with nat_eq text (codes "//") || starts_with nat_eq text (codes "/*")
 
--- what a piece asks of the place where it stands
+-- what a piece asks of what is behind it
 abbrev pub MayStand : Sort → List ℕ → List ℕ → Type 0
 MayStand WhiteSpace text rest = Unit {0}
 MayStand LineComment text rest = IsAtLineEnd rest

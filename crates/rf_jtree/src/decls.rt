@@ -5,7 +5,7 @@ use rf_text::List;
 #[derive(Drop)]
 pub struct Param {
     pub mods: List<Mod>,
-    pub sort: TypeUse,
+    pub used_type: TypeUse,
     pub id: Tok,
     pub dims: Dims,
 }
@@ -30,7 +30,7 @@ pub struct CtorCall {
 #[derive(Drop)]
 pub enum Ret {
     Void(Tok),
-    Value(TypeUse),
+    Typed(TypeUse),
 }
 
 /// The body of a method, or `;` in its place (JLS 8.4.7).
@@ -69,7 +69,7 @@ pub enum Member {
     },
     Field {
         mods: List<Mod>,
-        sort: TypeUse,
+        used_type: TypeUse,
         vars: Many<Var>,
         semi: Tok,
     },

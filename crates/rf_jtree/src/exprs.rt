@@ -14,7 +14,7 @@ pub struct Args {
 #[cycle(expr)]
 #[derive(Drop)]
 pub enum Init {
-    Value(Box<Expr>),
+    Expression(Box<Expr>),
     Braced(Box<Braces>),
 }
 

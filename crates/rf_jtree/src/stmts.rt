@@ -13,7 +13,7 @@ pub struct Var {
 #[derive(Drop)]
 pub struct Local {
     pub mods: List<Mod>,
-    pub sort: TypeUse,
+    pub used_type: TypeUse,
     pub vars: Many<Var>,
 }
 
@@ -38,7 +38,7 @@ pub enum ForFirst {
 pub struct Head {
     pub word: Tok,
     pub left: Tok,
-    pub value: Box<Expr>,
+    pub expression: Box<Expr>,
     pub right: Tok,
 }
 
@@ -61,7 +61,7 @@ pub struct EachHead {
     pub word: Tok,
     pub left: Tok,
     pub mods: List<Mod>,
-    pub sort: TypeUse,
+    pub used_type: TypeUse,
     pub id: Tok,
     pub colon: Tok,
     pub over: Box<Expr>,
@@ -73,7 +73,7 @@ pub struct EachHead {
 #[derive(Drop)]
 pub struct Group {
     pub word: Tok,
-    pub value: Option<Box<Expr>>,
+    pub expression: Option<Box<Expr>>,
     pub colon: Tok,
     pub body: List<Stmt>,
 }
@@ -100,7 +100,7 @@ pub enum Stmt {
     Empty(Tok),
     Local(Box<Local>, Tok),
     Label(Tok, Tok, Box<Stmt>),
-    Value(Box<Expr>, Tok),
+    Expression(Box<Expr>, Tok),
     If {
         head: Box<Head>,
         then: Box<Stmt>,

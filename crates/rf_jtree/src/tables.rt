@@ -8,7 +8,7 @@ macro_rules! texts {
 
 pub(crate) use texts;
 
-/// The byte at this place, or 0 behind the end.
+/// The byte at this offset, or 0 behind the end.
 pub(crate) fn byte_at(bytes: &[u8], at: usize) -> usize
     ensures value { result ≡ byte_at bytes.now at }
     ensures within { result < 256 }

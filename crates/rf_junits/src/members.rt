@@ -13,7 +13,7 @@ use rf_jtree::{Body, CtorCall, Many, Member, Name, Params, Ret, Stmt, Tok, Var};
 use rf_jview::accounts::{enter, note, open, plain};
 use rf_jview::exprs::args;
 use rf_jview::mods::{modifiers, optional_tok};
-use rf_jview::names::sort;
+use rf_jview::names::type_use;
 use rf_jview::{Account, Invocation, Mark, Opening};
 use rf_jwalk::stmts::{block, stmts};
 use rf_jwalk::vars::beginning;
@@ -63,7 +63,7 @@ fn method_result(of: &Ret, account: &mut Account) -> Result<(), Memory>
 {
     match of {
         Ret::Void(_word) => plain(account),
-        Ret::Value(value) => sort(value, account),
+        Ret::Typed(used_type) => type_use(used_type, account),
     }
 }
 
@@ -175,12 +175,12 @@ pub fn member(tree: &Member, account: &mut Account) -> Result<(), Memory>
         }
         Member::Field {
             mods,
-            sort: of,
+            used_type: of,
             vars,
             semi: _semi,
         } => {
             modifiers(mods, account)?;
-            sort(of, account)?;
+            type_use(of, account)?;
             fields(vars, account)?;
             plain(account)
         }

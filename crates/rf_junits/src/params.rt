@@ -11,7 +11,7 @@ use rf_jtree::{Many, Name, Param, Tok};
 use rf_jview::Account;
 use rf_jview::accounts::{local, plain};
 use rf_jview::mods::modifiers;
-use rf_jview::names::{dims, sort, type_name};
+use rf_jview::names::{dims, type_name, type_use};
 use rf_text::{List, Memory};
 
 fn many_names(many: &Many<Name>, account: &mut Account) -> Result<(), Memory>
@@ -45,7 +45,7 @@ fn param(param: &Param, account: &mut Account) -> Result<(), Memory>
         (param_marks (back_of account.old) (param_shown param.now))) }
 {
     modifiers(&param.mods, account)?;
-    sort(&param.sort, account)?;
+    type_use(&param.used_type, account)?;
     local(account)?;
     dims(&param.dims, account)
 }

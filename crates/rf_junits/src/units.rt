@@ -92,7 +92,8 @@ fn import_name(name: &Name, star: &Option<(Tok, Tok)>, account: &mut Account) ->
 }
 
 fn one_import(import: &Import, account: &mut Account) -> Result<(), Memory>
-    ensures { OnOk result (account.new ≡ noted account.old (import_marks (import_shown import.now))) }
+    ensures { OnOk result
+        (account.new ≡ noted account.old (import_marks (import_shown import.now))) }
 {
     plain(account)?;
     import_name(&import.name, &import.star, account)?;

@@ -107,5 +107,5 @@ pub base_alike : (g : Rewriting) (n : ℕ) (base : TypeBaseTree) → Alike (base
 base_alike g n (Prim tok) = alike (m.Plain ∷ [])
 base_alike g n (Named name) = tname_alike g n name
 
-pub type_alike : (g : Rewriting) (n : ℕ) (sort : TypeUseTree) → Alike (type_marks (type_with g n sort)) (type_marks sort)
-type_alike g n sort = both (base_alike g n sort.base) (alike (dims_marks sort.dims))
+pub type_alike : (g : Rewriting) (n : ℕ) (used_type : TypeUseTree) → Alike (type_marks (type_with g n used_type)) (type_marks used_type)
+type_alike g n used_type = both (base_alike g n used_type.base) (alike (dims_marks used_type.dims))

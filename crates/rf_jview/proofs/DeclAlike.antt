@@ -3,7 +3,7 @@ use Rattle.std.proofs.Common.{◌≡◌, ℕ, suc, ◌+◌, List, [], ◌∷◌,
 use Rattle.std.specs.List.{list_any}
 use Rattle.rf_jtree.specs.declared.keyword_names.TheConstants.{CLASS}
 use Rattle.rf_jtree.specs.declared.tokens.Tok.{Tok}
-use Rattle.rf_jtree.specs.DeclTrees.{ParamTree, ParamsTree, CtorCallTree, RetTree, Void, Value, BodyTree, Block, MemberTree, Init, Ctor, Method, Field, TypeDeclTree, ImportTree, UnitTree}
+use Rattle.rf_jtree.specs.DeclTrees.{ParamTree, ParamsTree, CtorCallTree, RetTree, Void, Typed, BodyTree, Block, MemberTree, Init, Ctor, Method, Field, TypeDeclTree, ImportTree, UnitTree}
 use Rattle.rf_jtree.specs.DeclTrees.{param_yield, member_yield, import_yield, package_yield}
 use Rattle.rf_jtree.specs.Kinds.{is_key_of}
 use Rattle.rf_jtree.specs.NameTrees.{ManyTree, NameTree, name_yield, mods_yield, option_yield, tok_yield, pair_yield}
@@ -37,7 +37,7 @@ param_alike : (g : Rewriting) (n back : ℕ) (param : ParamTree) → Alike (para
 param_alike g n back param =
     both (alike (mods_marks param.mods))
     (thens (λ back. m.Local back ∷ dims_marks param.dims) (λ back. m.Local back ∷ dims_marks param.dims) (after back (mods_marks param.mods))
-    (type_alike g (behind n (mods_yield param.mods)) param.sort) (λ back. alike (m.Local back ∷ dims_marks param.dims)))
+    (type_alike g (behind n (mods_yield param.mods)) param.used_type) (λ back. alike (m.Local back ∷ dims_marks param.dims)))
 
 more_params_alike : (g : Rewriting) (n back : ℕ) (rest : List (Tok × ParamTree))
     → Alike (more_params_marks back (rest_with param_yield (param_with g) n rest)) (more_params_marks back rest)
@@ -81,7 +81,7 @@ ctor_body_alike g n call n2 body =
 
 ret_alike : (g : Rewriting) (n : ℕ) (ret : RetTree) → Alike (ret_marks (ret_with g n ret)) (ret_marks ret)
 ret_alike g n (Void word) = alike (m.Plain ∷ [])
-ret_alike g n (Value sort) = type_alike g n sort
+ret_alike g n (Typed used_type) = type_alike g n used_type
 
 body_alike : (g : Rewriting) (n : ℕ) (body : BodyTree) → Alike (body_marks (body_with g n body)) (body_marks body)
 body_alike g n (Block block) = block_alike g n o.Block block
@@ -115,8 +115,8 @@ member_alike g n (Ctor mods id params throws left call body right) =
     both (alike (mods_marks mods)) (ctor_then (callable_alike g _ params _ throws (ctor_body_alike g _ call _ body)))
 member_alike g n (Method mods ret id params throws body) =
     both (alike (mods_marks mods)) (both (ret_alike g _ ret) (method_then (callable_alike g _ params _ throws (body_alike g _ body))))
-member_alike g n (Field mods sort vars semi) =
-    both (alike (mods_marks mods)) (both (type_alike g _ sort) (both (fields_alike g _ vars) (alike (m.Plain ∷ []))))
+member_alike g n (Field mods used_type vars semi) =
+    both (alike (mods_marks mods)) (both (type_alike g _ used_type) (both (fields_alike g _ vars) (alike (m.Plain ∷ []))))
 
 -- types and files
 is_ctor-with : (g : Rewriting) (n : ℕ) (member : MemberTree) → is_ctor (member_with g n member) ≡ is_ctor member
@@ -124,7 +124,7 @@ is_ctor-with g n (MemberTree.Semi semi) = refl
 is_ctor-with g n (Init word body) = refl
 is_ctor-with g n (Ctor mods id params throws left call body right) = refl
 is_ctor-with g n (Method mods ret id params throws body) = refl
-is_ctor-with g n (Field mods sort vars semi) = refl
+is_ctor-with g n (Field mods used_type vars semi) = refl
 
 has_ctor-with : (g : Rewriting) (n : ℕ) (members : List MemberTree) → list_any is_ctor (members_with g n members) ≡ list_any is_ctor members
 has_ctor-with g n [] = refl

@@ -4,7 +4,7 @@ use Rattle.rf_jtree.specs.declared.tokens.Tok.{Tok}
 use Rattle.rf_jtree.specs.declared.words.Kw.{Kw}
 use Rattle.rf_jtree.specs.declared.operator_names.TheConstants.{COMMA}
 use Rattle.rf_jtree.specs.DeclFits.{NamesFit, ParamFits, ParamsFit, CtorCallFits, RetFits, BodyFits, IsCallable, MemberFits, is_semi, ClassTakes, InterfaceTakes, IsOneName, IsClass, IsInterface, DeclFits, NamesPackage, ImportFits, UnitFits}
-use Rattle.rf_jtree.specs.DeclTrees.{ParamTree, ParamsTree, CtorCallTree, RetTree, Void, Value, BodyTree, Block, MemberTree, Init, Ctor, Method, Field, TypeDeclTree, ImportTree, UnitTree}
+use Rattle.rf_jtree.specs.DeclTrees.{ParamTree, ParamsTree, CtorCallTree, RetTree, Void, Typed, BodyTree, Block, MemberTree, Init, Ctor, Method, Field, TypeDeclTree, ImportTree, UnitTree}
 use Rattle.rf_jtree.specs.DeclTrees.{param_yield, member_yield, import_yield}
 use Rattle.rf_jtree.specs.NameFits.{EachFits, ManyFit, NameFits}
 use Rattle.rf_jtree.specs.NameTrees.{ManyTree, NameTree, name_yield}
@@ -25,7 +25,7 @@ names_fits-with g w key n (Some names) fit = (fit.0, many_fits-with NameFits COM
 -- methods and constructors
 param_fits-with : (g : Rewriting) → WritesNames g → (n : ℕ) (param : ParamTree) → ParamFits param → ParamFits (param_with g n param)
 param_fits-with g w n param fit =
-    record { mods_fit = fit.mods_fit; sort_fits = type_fits-with g w _ param.sort fit.sort_fits; id_is = fit.id_is; dims_fit = fit.dims_fit }
+    record { mods_fit = fit.mods_fit; used_type_fits = type_fits-with g w _ param.used_type fit.used_type_fits; id_is = fit.id_is; dims_fit = fit.dims_fit }
 
 params_fits-with : (g : Rewriting) → WritesNames g → (n : ℕ) (params : ParamsTree) → ParamsFit params → ParamsFit (params_with g n params)
 params_fits-with g w n params fit = (
@@ -39,7 +39,7 @@ ctor_call_fits-with g w n call fit = (fit.0, args_fits-with g w (suc n) call.arg
 
 ret_fits-with : (g : Rewriting) → WritesNames g → (n : ℕ) (ret : RetTree) → RetFits ret → RetFits (ret_with g n ret)
 ret_fits-with g w n (Void word) fit = fit
-ret_fits-with g w n (Value sort) fit = type_fits-with g w n sort fit
+ret_fits-with g w n (Typed used_type) fit = type_fits-with g w n used_type fit
 
 body_fits-with : (g : Rewriting) → WritesNames g → (n : ℕ) (body : BodyTree) → BodyFits body → BodyFits (body_with g n body)
 body_fits-with g w n (Block block) fit = block_fits-with g w n block fit
@@ -68,7 +68,7 @@ member_fits-with g w n (Ctor mods id params throws left call body right) fit = (
 )
 member_fits-with g w n (Method mods ret id params throws body) fit =
     (fit.0, ret_fits-with g w _ ret fit.1, callable-with g w _ id _ params _ throws fit.2 refl, body_fits-with g w _ body fit.3)
-member_fits-with g w n (Field mods sort vars semi) fit = (fit.0, type_fits-with g w _ sort fit.1, vars_fits-with g w _ vars fit.2, fit.3)
+member_fits-with g w n (Field mods used_type vars semi) fit = (fit.0, type_fits-with g w _ used_type fit.1, vars_fits-with g w _ vars fit.2, fit.3)
 
 is_semi-with : (g : Rewriting) (n : ℕ) (body : BodyTree) → is_semi (body_with g n body) ≡ is_semi body
 is_semi-with g n (Block block) = refl
@@ -79,7 +79,7 @@ class_takes-with g n (MemberTree.Semi semi) takes = takes
 class_takes-with g n (Init word body) takes = takes
 class_takes-with g n (Ctor mods id params throws left call body right) takes = takes
 class_takes-with g n (Method mods ret id params throws body) takes = is_semi-with g _ body ∙ takes
-class_takes-with g n (Field mods sort vars semi) takes = takes
+class_takes-with g n (Field mods used_type vars semi) takes = takes
 
 begins-with : (g : Rewriting) (n : ℕ) (init : Option (Tok × InitTree)) → IsSome init → IsSome (option_with (behind_with (init_with g)) n init)
 begins-with g n None begins = begins
@@ -96,7 +96,7 @@ interface_takes-with g n (Init word body) takes = takes
 interface_takes-with g n (Ctor mods id params throws left call body right) takes = takes
 interface_takes-with g n (Method mods ret id params throws (Block block)) takes = record { no_body = takes.no_body; not_static = takes.not_static; visible = takes.visible }
 interface_takes-with g n (Method mods ret id params throws (BodyTree.Semi semi)) takes = record { no_body = takes.no_body; not_static = takes.not_static; visible = takes.visible }
-interface_takes-with g n (Field mods sort vars semi) takes = record {
+interface_takes-with g n (Field mods used_type vars semi) takes = record {
   each_begins = (begins-with g _ vars.first.init takes.each_begins.0, more_begin-with g _ vars.rest takes.each_begins.1);
   visible = takes.visible;
 }
@@ -114,7 +114,7 @@ decl_fits-with : (g : Rewriting) → WritesNames g → (n : ℕ) (decl : TypeDec
 decl_fits-with g w n decl fit = record {
   mods_fit = fit.mods_fit;
   visible = fit.visible;
-  sort = elim fit.sort [ inl is ↦ inl (as_class is) | inr is ↦ inr (as_interface is) ];
+  kind = elim fit.kind [ inl is ↦ inl (as_class is) | inr is ↦ inr (as_interface is) ];
   id_is = fit.id_is;
   extends_fits = names_fits-with g w _ _ decl.extends fit.extends_fits;
   implements_fits = names_fits-with g w _ _ decl.implements fit.implements_fits;

@@ -2,7 +2,7 @@
 use Rattle.std.proofs.Common.{◌≡◌, ℕ, ◌+◌, List, [], ◌∷◌, ◌++◌, length, Option, Some, None}
 use Rattle.std.specs.List.{flat_map}
 use Rattle.rf_jtree.specs.declared.tokens.Tok.{Tok}
-use Rattle.rf_jtree.specs.DeclTrees.{ParamTree, ParamsTree, CtorCallTree, RetTree, Void, Value, BodyTree, Block, MemberTree, Init, Ctor, Method, Field, TypeDeclTree, ImportTree, UnitTree}
+use Rattle.rf_jtree.specs.DeclTrees.{ParamTree, ParamsTree, CtorCallTree, RetTree, Void, Typed, BodyTree, Block, MemberTree, Init, Ctor, Method, Field, TypeDeclTree, ImportTree, UnitTree}
 use Rattle.rf_jtree.specs.DeclTrees.{names_yield, param_yield, params_yield, ctor_call_yield, ret_yield, body_yield, member_yield, decl_yield, import_yield, package_yield, unit_yield}
 use Rattle.rf_jtree.specs.NameTrees.{ManyTree, NameTree, name_yield, mods_yield, dims_yield, option_yield, behind_yield, tok_yield, pair_yield, many_yield}
 use Rattle.rf_jtree.specs.StmtTrees.{VarTree, StmtsTree, stmts_yield, var_yield}
@@ -25,7 +25,7 @@ names_as_many names =
 
 -- methods and constructors
 param_as_many : (back : ℕ) (param : ParamTree) → AsMany (param_marks back param) (param_yield param)
-param_as_many back param = both (each (mods_yield param.mods)) (both (type_as_many param.sort) (one (each (dims_yield param.dims))))
+param_as_many back param = both (each (mods_yield param.mods)) (both (type_as_many param.used_type) (one (each (dims_yield param.dims))))
 
 more_params_as_many : (back : ℕ) (rest : List (Tok × ParamTree)) → AsMany (more_params_marks back rest) (flat_map (λ item. item.0 ∷ param_yield item.1) rest)
 more_params_as_many back [] = none
@@ -52,7 +52,7 @@ ctor_body_as_many left right call body =
 
 ret_as_many : (ret : RetTree) → AsMany (ret_marks ret) (ret_yield ret)
 ret_as_many (Void word) = one none
-ret_as_many (Value sort) = type_as_many sort
+ret_as_many (Typed used_type) = type_as_many used_type
 
 body_as_many : (body : BodyTree) → AsMany (body_marks body) (body_yield body)
 body_as_many (Block block) = block_as_many o.Block block
@@ -74,7 +74,7 @@ member_as_many (Ctor mods id params throws left call body right) =
     both (each (mods_yield mods)) (one (callable_as_many params throws (ctor_body_as_many left right call body)))
 member_as_many (Method mods ret id params throws body) =
     both (each (mods_yield mods)) (both (ret_as_many ret) (one (callable_as_many params throws (body_as_many body))))
-member_as_many (Field mods sort vars semi) = both (each (mods_yield mods)) (both (type_as_many sort) (both (fields_as_many vars) (one none)))
+member_as_many (Field mods used_type vars semi) = both (each (mods_yield mods)) (both (type_as_many used_type) (both (fields_as_many vars) (one none)))
 
 members_as_many : (members : List MemberTree) → AsMany (members_marks members) (flat_map member_yield members)
 members_as_many [] = none

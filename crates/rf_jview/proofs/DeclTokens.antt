@@ -2,7 +2,7 @@
 use Rattle.std.proofs.Common.{ℕ, suc, Option, Some, None}
 use Rattle.std.specs.List.{flat_map}
 use Rattle.rf_jtree.specs.declared.tokens.Tok.{Tok}
-use Rattle.rf_jtree.specs.DeclTrees.{ParamTree, ParamsTree, CtorCallTree, RetTree, Void, Value, BodyTree, Block, MemberTree, Init, Ctor, Method, Field, TypeDeclTree, ImportTree, UnitTree}
+use Rattle.rf_jtree.specs.DeclTrees.{ParamTree, ParamsTree, CtorCallTree, RetTree, Void, Typed, BodyTree, Block, MemberTree, Init, Ctor, Method, Field, TypeDeclTree, ImportTree, UnitTree}
 use Rattle.rf_jtree.specs.DeclTrees.{names_yield, param_yield, params_yield, ctor_call_yield, ret_yield, body_yield, member_yield, decl_yield, import_yield, package_yield, unit_yield}
 use Rattle.rf_jtree.specs.NameTrees.{ManyTree, NameTree, name_yield, type_yield, mods_yield, dims_yield, option_yield, behind_yield, tok_yield, pair_yield, many_yield}
 use Rattle.rf_jview.specs.DeclWith.{names_with, param_with, params_with, ctor_call_with, ret_with, body_with, member_with, decl_with, import_name_with, import_with, unit_with}
@@ -20,7 +20,7 @@ names_tokens g n names =
 param_tokens : (g : Rewriting) (n : ℕ) (param : ParamTree) → Rewritten g n (param_yield param) (param_yield (param_with g n param))
 param_tokens g n param =
     joined (same (mods_yield param.mods))
-    (joined (type_tokens g (behind n (mods_yield param.mods)) param.sort) (text_then param.id (same (dims_yield param.dims))))
+    (joined (type_tokens g (behind n (mods_yield param.mods)) param.used_type) (text_then param.id (same (dims_yield param.dims))))
 
 params_tokens : (g : Rewriting) (n : ℕ) (params : ParamsTree) → Rewritten g n (params_yield params) (params_yield (params_with g n params))
 params_tokens g n params =
@@ -33,7 +33,7 @@ ctor_call_tokens g n call = kept_then call.word (joined (args_tokens g (suc n) c
 
 ret_tokens : (g : Rewriting) (n : ℕ) (ret : RetTree) → Rewritten g n (ret_yield ret) (ret_yield (ret_with g n ret))
 ret_tokens g n (Void word) = kept n word
-ret_tokens g n (Value sort) = type_tokens g n sort
+ret_tokens g n (Typed used_type) = type_tokens g n used_type
 
 body_tokens : (g : Rewriting) (n : ℕ) (body : BodyTree) → Rewritten g n (body_yield body) (body_yield (body_with g n body))
 body_tokens g n (Block block) = block_tokens g n block
@@ -44,7 +44,7 @@ member_tokens g n (MemberTree.Semi semi) = kept_then semi (none _)
 member_tokens g n (Init word body) = joined (same (option_yield tok_yield word)) ((block_tokens g (behind n (option_yield tok_yield word)) body))
 member_tokens g n (Ctor mods id params throws left call body right) = joined (same (mods_yield mods)) (text_then id (joined (params_tokens g (suc (behind n (mods_yield mods))) params) (joined (names_tokens g (behind (suc (behind n (mods_yield mods))) (params_yield params)) throws) (kept_then left (joined (optional_tokens ctor_call_yield (ctor_call_with g) (ctor_call_tokens g) (suc (behind (behind (suc (behind n (mods_yield mods))) (params_yield params)) (names_yield throws))) call) (joined (stmts_tokens g (behind (suc (behind (behind (suc (behind n (mods_yield mods))) (params_yield params)) (names_yield throws))) (option_yield ctor_call_yield call)) body) (kept_then right (none _))))))))
 member_tokens g n (Method mods ret id params throws body) = joined (same (mods_yield mods)) (joined (ret_tokens g (behind n (mods_yield mods)) ret) (text_then id (joined (params_tokens g (suc (behind (behind n (mods_yield mods)) (ret_yield ret))) params) (joined (names_tokens g (behind (suc (behind (behind n (mods_yield mods)) (ret_yield ret))) (params_yield params)) throws) ((body_tokens g (behind (behind (suc (behind (behind n (mods_yield mods)) (ret_yield ret))) (params_yield params)) (names_yield throws)) body))))))
-member_tokens g n (Field mods sort vars semi) = joined (same (mods_yield mods)) (joined (type_tokens g (behind n (mods_yield mods)) sort) (joined (vars_tokens g (behind (behind n (mods_yield mods)) (type_yield sort)) vars) (kept_then semi (none _))))
+member_tokens g n (Field mods used_type vars semi) = joined (same (mods_yield mods)) (joined (type_tokens g (behind n (mods_yield mods)) used_type) (joined (vars_tokens g (behind (behind n (mods_yield mods)) (type_yield used_type)) vars) (kept_then semi (none _))))
 
 decl_tokens : (g : Rewriting) (n : ℕ) (decl : TypeDeclTree) → Rewritten g n (decl_yield decl) (decl_yield (decl_with g n decl))
 decl_tokens g n decl =

@@ -5,7 +5,7 @@ use Rattle.rf_jtree.specs.DeclTrees.{BodyTree, Block, MemberTree, Init, Ctor, Me
 use Rattle.rf_jtree.specs.DeclTrees.{names_yield, params_yield, ctor_call_yield, member_yield}
 use Rattle.rf_jtree.specs.ExprTrees.{ExprTree, Assign, Cond, Binary, Instance, Unary, Cast, Postfix, Lit, This, Paren, Name, Call, Field, Super, New, Index, NewArray, NewInit}
 use Rattle.rf_jtree.specs.ExprTrees.{OnTree, NoOn, On, ArgsTree, Args, SuperArgsTree, NoArgs, SuperArgs, ExprsTree, NoExprs, Exprs, MoreExprsTree, NoMoreExprs, MoreExprs, SizesTree, NoSizes, Sizes}
-use Rattle.rf_jtree.specs.ExprTrees.{InitTree, Value, Braced, BracesTree, Braces, InitsTree, NoInits, Inits, MoreInitsTree, NoMoreInits, MoreInits}
+use Rattle.rf_jtree.specs.ExprTrees.{InitTree, Expression, Braced, BracesTree, Braces, InitsTree, NoInits, Inits, MoreInitsTree, NoMoreInits, MoreInits}
 use Rattle.rf_jtree.specs.ExprTrees.{expr_yield, on_yield, exprs_yield, init_yield, expr_depth, on_depth, args_depth, super_args_depth, exprs_depth, more_exprs_depth, sizes_depth, init_depth, braces_depth, inits_depth, more_inits_depth}
 use Rattle.rf_jtree.specs.NameTrees.{ManyTree, name_yield, base_yield, type_yield, dims_yield, mods_yield, option_yield, tok_yield, option_depth, list_depth, many_depth}
 use Rattle.rf_jtree.specs.StmtTrees.{VarTree, LocalTree, ForFirstTree, StmtTree, Empty, Label, If, While, Do, For, Each, Switch, Jump, Return, Throw, Sync, Assert, Try}
@@ -45,28 +45,28 @@ many_depth-with yield depth change each n many =
 
 mutual
   pub expr_depth-with : (g : Rewriting) (n : ℕ) (tree : ExprTree) → expr_depth (expr_with g n tree) ≡ expr_depth tree
-  expr_depth-with g n (Assign left op value) = rw (expr_depth-with g n left, expr_depth-with g (suc (behind n (expr_yield left))) value) refl
+  expr_depth-with g n (Assign left op operand) = rw (expr_depth-with g n left, expr_depth-with g (suc (behind n (expr_yield left))) operand) refl
   expr_depth-with g n (Cond test mark then colon other) = rw (expr_depth-with g n test, expr_depth-with g (suc (behind n (expr_yield test))) then, expr_depth-with g (suc (behind (suc (behind n (expr_yield test))) (expr_yield then))) other) refl
   expr_depth-with g n (Binary left op right) = rw (expr_depth-with g n left, expr_depth-with g (suc (behind n (expr_yield left))) right) refl
-  expr_depth-with g n (Instance value word sort) = rw (expr_depth-with g n value) refl
-  expr_depth-with g n (Unary op value) = rw (expr_depth-with g (suc n) value) refl
-  expr_depth-with g n (Cast left sort right value) = rw (expr_depth-with g (suc (behind (suc n) (type_yield sort))) value) refl
-  expr_depth-with g n (Postfix value op) = rw (expr_depth-with g n value) refl
+  expr_depth-with g n (Instance operand word used_type) = rw (expr_depth-with g n operand) refl
+  expr_depth-with g n (Unary op operand) = rw (expr_depth-with g (suc n) operand) refl
+  expr_depth-with g n (Cast left used_type right operand) = rw (expr_depth-with g (suc (behind (suc n) (type_yield used_type))) operand) refl
+  expr_depth-with g n (Postfix operand op) = rw (expr_depth-with g n operand) refl
   expr_depth-with g n (Lit tok) = refl
   expr_depth-with g n (This tok) = refl
-  expr_depth-with g n (Paren left value right) = rw (expr_depth-with g (suc n) value) refl
+  expr_depth-with g n (Paren left operand right) = rw (expr_depth-with g (suc n) operand) refl
   expr_depth-with g n (Name name) = refl
   expr_depth-with g n (Call on id args) = rw (on_depth-with g n on, args_depth-with g (suc (behind n (on_yield on))) args) refl
-  expr_depth-with g n (Field value dot id) = rw (expr_depth-with g n value) refl
+  expr_depth-with g n (Field operand dot id) = rw (expr_depth-with g n operand) refl
   expr_depth-with g n (Super word dot id args) = rw (super_args_depth-with g (suc (suc (suc n))) args) refl
   expr_depth-with g n (New word name args) = rw (args_depth-with g (behind (suc n) (name_yield name)) args) refl
-  expr_depth-with g n (Index value left index right) = rw (expr_depth-with g n value, expr_depth-with g (suc (behind n (expr_yield value))) index) refl
+  expr_depth-with g n (Index operand left index right) = rw (expr_depth-with g n operand, expr_depth-with g (suc (behind n (expr_yield operand))) index) refl
   expr_depth-with g n (NewArray word base sizes dims) = rw (sizes_depth-with g (behind (suc n) (base_yield base)) sizes) refl
   expr_depth-with g n (NewInit word base dims init) = rw (braces_depth-with g (behind (behind (suc n) (base_yield base)) (dims_yield dims)) init) refl
 
   pub on_depth-with : (g : Rewriting) (n : ℕ) (tree : OnTree) → on_depth (on_with g n tree) ≡ on_depth tree
   on_depth-with g n NoOn = refl
-  on_depth-with g n (On value dot) = rw (expr_depth-with g n value) refl
+  on_depth-with g n (On operand dot) = rw (expr_depth-with g n operand) refl
 
   pub args_depth-with : (g : Rewriting) (n : ℕ) (tree : ArgsTree) → args_depth (args_with g n tree) ≡ args_depth tree
   args_depth-with g n (Args left list right) = rw (exprs_depth-with g (suc n) list) refl
@@ -88,7 +88,7 @@ mutual
   sizes_depth-with g n (Sizes left size right rest) = rw (expr_depth-with g (suc n) size, sizes_depth-with g (suc (behind (suc n) (expr_yield size))) rest) refl
 
   pub init_depth-with : (g : Rewriting) (n : ℕ) (tree : InitTree) → init_depth (init_with g n tree) ≡ init_depth tree
-  init_depth-with g n (Value value) = rw (expr_depth-with g n value) refl
+  init_depth-with g n (Expression operand) = rw (expr_depth-with g n operand) refl
   init_depth-with g n (Braced braces) = rw (braces_depth-with g n braces) refl
 
   pub braces_depth-with : (g : Rewriting) (n : ℕ) (tree : BracesTree) → braces_depth (braces_with g n tree) ≡ braces_depth tree
@@ -108,7 +108,7 @@ var_depth-with g n var =
     option_depth-with (λ init. init_depth init.1) (behind_with (init_with g)) (λ n part. init_depth-with g (suc n) part.1) (behind (suc n) (dims_yield var.dims)) var.init
 
 local_depth-with : (g : Rewriting) (n : ℕ) (local : LocalTree) → local_depth (local_with g n local) ≡ local_depth local
-local_depth-with g n local = many_depth-with var_yield var_depth (var_with g) (var_depth-with g) (behind (behind n (mods_yield local.mods)) (type_yield local.sort)) local.vars
+local_depth-with g n local = many_depth-with var_yield var_depth (var_with g) (var_depth-with g) (behind (behind n (mods_yield local.mods)) (type_yield local.used_type)) local.vars
 
 first_depth-with : (g : Rewriting) (n : ℕ) (first : ForFirstTree) → first_depth (first_with g n first) ≡ first_depth first
 first_depth-with g n (ForFirstTree.Local local) = local_depth-with g n local
@@ -120,16 +120,16 @@ mutual
   stmt_depth-with g n (Empty semi) = refl
   stmt_depth-with g n (StmtTree.Local local semi) = rw (local_depth-with g n local) refl
   stmt_depth-with g n (Label id colon body) = rw (stmt_depth-with g (suc (suc n)) body) refl
-  stmt_depth-with g n (s.StmtTree.Value value semi) = rw (expr_depth-with g n value) refl
+  stmt_depth-with g n (s.StmtTree.Expression operand semi) = rw (expr_depth-with g n operand) refl
   stmt_depth-with g n (If word left test right then other) = rw (expr_depth-with g (suc (suc n)) test, stmt_depth-with g (suc (behind (suc (suc n)) (expr_yield test))) then, other_depth-with g (behind (suc (behind (suc (suc n)) (expr_yield test))) (stmt_yield then)) other) refl
   stmt_depth-with g n (While word left test right body) = rw (expr_depth-with g (suc (suc n)) test, stmt_depth-with g (suc (behind (suc (suc n)) (expr_yield test))) body) refl
   stmt_depth-with g n (Do word body until left test right semi) = rw (stmt_depth-with g (suc n) body, expr_depth-with g (suc (suc (behind (suc n) (stmt_yield body)))) test) refl
   stmt_depth-with g n (For word left first semi1 test semi2 last right body) = rw (first_depth-with g (suc (suc n)) first, option_depth-with expr_depth (expr_with g) (expr_depth-with g) (suc (behind (suc (suc n)) (first_yield first))) test, exprs_depth-with g (suc (behind (suc (behind (suc (suc n)) (first_yield first))) (option_yield expr_yield test))) last, stmt_depth-with g (suc (behind (suc (behind (suc (behind (suc (suc n)) (first_yield first))) (option_yield expr_yield test))) (exprs_yield last))) body) refl
-  stmt_depth-with g n (Each word left mods sort id colon over right body) = rw (expr_depth-with g (suc (suc (behind (behind (suc (suc n)) (mods_yield mods)) (type_yield sort)))) over, stmt_depth-with g (suc (behind (suc (suc (behind (behind (suc (suc n)) (mods_yield mods)) (type_yield sort)))) (expr_yield over))) body) refl
+  stmt_depth-with g n (Each word left mods used_type id colon over right body) = rw (expr_depth-with g (suc (suc (behind (behind (suc (suc n)) (mods_yield mods)) (type_yield used_type)))) over, stmt_depth-with g (suc (behind (suc (suc (behind (behind (suc (suc n)) (mods_yield mods)) (type_yield used_type)))) (expr_yield over))) body) refl
   stmt_depth-with g n (Switch word left on right brace groups end) = rw (expr_depth-with g (suc (suc n)) on, groups_depth-with g (suc (suc (behind (suc (suc n)) (expr_yield on)))) groups) refl
   stmt_depth-with g n (Jump word label semi) = refl
-  stmt_depth-with g n (Return word value semi) = rw (option_depth-with expr_depth (expr_with g) (expr_depth-with g) (suc n) value) refl
-  stmt_depth-with g n (Throw word value semi) = rw (expr_depth-with g (suc n) value) refl
+  stmt_depth-with g n (Return word operand semi) = rw (option_depth-with expr_depth (expr_with g) (expr_depth-with g) (suc n) operand) refl
+  stmt_depth-with g n (Throw word operand semi) = rw (expr_depth-with g (suc n) operand) refl
   stmt_depth-with g n (Sync word left on right body) = rw (expr_depth-with g (suc (suc n)) on, block_depth-with g (suc (behind (suc (suc n)) (expr_yield on))) body) refl
   stmt_depth-with g n (Assert word test message semi) = rw (expr_depth-with g (suc n) test, option_depth-with (λ part. expr_depth part.1) (behind_with (expr_with g)) (λ n part. expr_depth-with g (suc n) part.1) (behind (suc n) (expr_yield test)) message) refl
   stmt_depth-with g n (Try word body catches last) = rw (block_depth-with g (suc n) body, catches_depth-with g (behind (suc n) (block_yield body)) catches, last_depth-with g (behind (behind (suc n) (block_yield body)) (catches_yield catches)) last) refl
@@ -146,7 +146,7 @@ mutual
   other_depth-with g n (Other word stmt) = rw (stmt_depth-with g (suc n) stmt) refl
 
   pub group_depth-with : (g : Rewriting) (n : ℕ) (tree : GroupTree) → group_depth (group_with g n tree) ≡ group_depth tree
-  group_depth-with g n (Group word value colon body) = rw (option_depth-with expr_depth (expr_with g) (expr_depth-with g) (suc n) value, stmts_depth-with g (suc (behind (suc n) (option_yield expr_yield value))) body) refl
+  group_depth-with g n (Group word operand colon body) = rw (option_depth-with expr_depth (expr_with g) (expr_depth-with g) (suc n) operand, stmts_depth-with g (suc (behind (suc n) (option_yield expr_yield operand))) body) refl
 
   pub groups_depth-with : (g : Rewriting) (n : ℕ) (tree : GroupsTree) → groups_depth (groups_with g n tree) ≡ groups_depth tree
   groups_depth-with g n NoGroups = refl
@@ -176,7 +176,7 @@ member_depth-with g n (Ctor mods id params throws left call body right) =
     (option_depth-with (λ call. args_depth call.args) (ctor_call_with g) (λ n call. args_depth-with g (suc n) call.args) before call)
     ∙ ap (max (option_depth (λ call. args_depth call.args) call)) (stmts_depth-with g (behind before (option_yield ctor_call_yield call)) body)
 member_depth-with g n (Method mods ret id params throws body) = body_depth-with g _ body
-member_depth-with g n (Field mods sort vars semi) = many_depth-with var_yield var_depth (var_with g) (var_depth-with g) _ vars
+member_depth-with g n (Field mods used_type vars semi) = many_depth-with var_yield var_depth (var_with g) (var_depth-with g) _ vars
 
 pub unit_depth-with : (g : Rewriting) (n : ℕ) (unit : UnitTree) → unit_depth (unit_with g n unit) ≡ unit_depth unit
 unit_depth-with g n unit = list_depth-with member_yield member_depth (member_with g) (member_depth-with g) _ unit.decl.members

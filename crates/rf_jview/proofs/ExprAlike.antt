@@ -2,7 +2,7 @@
 use Rattle.std.proofs.Common.{ℕ, suc, [], ◌∷◌}
 use Rattle.rf_jtree.specs.ExprTrees.{ExprTree, Assign, Cond, Binary, Instance, Unary, Cast, Postfix, Lit, This, Paren, Name, Call, Field, Super, New, Index, NewArray, NewInit}
 use Rattle.rf_jtree.specs.ExprTrees.{OnTree, NoOn, On, ArgsTree, Args, SuperArgsTree, NoArgs, SuperArgs, ExprsTree, NoExprs, Exprs, MoreExprsTree, NoMoreExprs, MoreExprs, SizesTree, NoSizes, Sizes}
-use Rattle.rf_jtree.specs.ExprTrees.{InitTree, Value, Braced, BracesTree, Braces, InitsTree, NoInits, Inits, MoreInitsTree, NoMoreInits, MoreInits}
+use Rattle.rf_jtree.specs.ExprTrees.{InitTree, Expression, Braced, BracesTree, Braces, InitsTree, NoInits, Inits, MoreInitsTree, NoMoreInits, MoreInits}
 use Rattle.rf_jtree.specs.ExprTrees.{expr_yield, on_yield, init_yield}
 use Rattle.rf_jtree.specs.NameTrees.{name_yield, base_yield, type_yield, dims_yield, option_yield, tok_yield}
 use Rattle.rf_jview.specs.declared.marks.Invocation.{Invocation}
@@ -17,28 +17,28 @@ use Rattle.rf_jview.proofs.Alike.{Alike, alike, both, plain, invoked, tname_alik
 
 mutual
   pub expr_alike : (g : Rewriting) (n : ℕ) (tree : ExprTree) → Alike (expr_marks (expr_with g n tree)) (expr_marks tree)
-  expr_alike g n (Assign left op value) = both (expr_alike g n left) (plain ((expr_alike g (suc (behind n (expr_yield left))) value)))
+  expr_alike g n (Assign left op operand) = both (expr_alike g n left) (plain ((expr_alike g (suc (behind n (expr_yield left))) operand)))
   expr_alike g n (Cond test mark then colon other) = both (expr_alike g n test) (plain (both (expr_alike g (suc (behind n (expr_yield test))) then) (plain ((expr_alike g (suc (behind (suc (behind n (expr_yield test))) (expr_yield then))) other)))))
   expr_alike g n (Binary left op right) = both (expr_alike g n left) (plain ((expr_alike g (suc (behind n (expr_yield left))) right)))
-  expr_alike g n (Instance value word sort) = both (expr_alike g n value) (plain ((type_alike g (suc (behind n (expr_yield value))) sort)))
-  expr_alike g n (Unary op value) = plain ((expr_alike g (suc n) value))
-  expr_alike g n (Cast left sort right value) = plain (both (type_alike g (suc n) sort) (plain ((expr_alike g (suc (behind (suc n) (type_yield sort))) value))))
-  expr_alike g n (Postfix value op) = both (expr_alike g n value) (plain (alike []))
+  expr_alike g n (Instance operand word used_type) = both (expr_alike g n operand) (plain ((type_alike g (suc (behind n (expr_yield operand))) used_type)))
+  expr_alike g n (Unary op operand) = plain ((expr_alike g (suc n) operand))
+  expr_alike g n (Cast left used_type right operand) = plain (both (type_alike g (suc n) used_type) (plain ((expr_alike g (suc (behind (suc n) (type_yield used_type))) operand))))
+  expr_alike g n (Postfix operand op) = both (expr_alike g n operand) (plain (alike []))
   expr_alike g n (Lit tok) = plain (alike [])
   expr_alike g n (This tok) = plain (alike [])
-  expr_alike g n (Paren left value right) = plain (both (expr_alike g (suc n) value) (plain (alike [])))
+  expr_alike g n (Paren left operand right) = plain (both (expr_alike g (suc n) operand) (plain (alike [])))
   expr_alike g n (Name name) = (name_alike g n name)
   expr_alike g n (Call on id args) = both (on_alike g n on) (plain (args_alike g (suc (behind n (on_yield on))) i.Method 1 args))
-  expr_alike g n (Field value dot id) = both (expr_alike g n value) (alike (m.Plain ∷ m.FieldAccess ∷ []))
+  expr_alike g n (Field operand dot id) = both (expr_alike g n operand) (alike (m.Plain ∷ m.FieldAccess ∷ []))
   expr_alike g n (Super word dot id args) = plain (plain (super_args_alike g (suc (suc (suc n))) args))
   expr_alike g n (New word name args) = plain (both (tname_alike g (suc n) name) (args_alike g (behind (suc n) (name_yield name)) i.Creation 2 args))
-  expr_alike g n (Index value left index right) = both (expr_alike g n value) (plain (both (expr_alike g (suc (behind n (expr_yield value))) index) (plain (alike []))))
+  expr_alike g n (Index operand left index right) = both (expr_alike g n operand) (plain (both (expr_alike g (suc (behind n (expr_yield operand))) index) (plain (alike []))))
   expr_alike g n (NewArray word base sizes dims) = plain (both (base_alike g (suc n) base) (both (sizes_alike g (behind (suc n) (base_yield base)) sizes) ((alike (dims_marks dims)))))
   expr_alike g n (NewInit word base dims init) = plain (both (base_alike g (suc n) base) (both (alike (dims_marks dims)) ((braces_alike g (behind (behind (suc n) (base_yield base)) (dims_yield dims)) init))))
 
   pub on_alike : (g : Rewriting) (n : ℕ) (tree : OnTree) → Alike (on_marks (on_with g n tree)) (on_marks tree)
   on_alike g n NoOn = alike []
-  on_alike g n (On value dot) = both (expr_alike g n value) (plain (alike []))
+  on_alike g n (On operand dot) = both (expr_alike g n operand) (plain (alike []))
 
   pub args_alike : (g : Rewriting) (n : ℕ) (invocation : Invocation) (back : ℕ) (args : ArgsTree) → Alike (args_marks invocation back (args_with g n args)) (args_marks invocation back args)
   args_alike g n invocation back (Args left list right) = plain (invoked invocation back (exprs_alike g (suc n) list))
@@ -60,7 +60,7 @@ mutual
   sizes_alike g n (Sizes left size right rest) = plain (both (expr_alike g (suc n) size) (plain ((sizes_alike g (suc (behind (suc n) (expr_yield size))) rest))))
 
   pub init_alike : (g : Rewriting) (n : ℕ) (tree : InitTree) → Alike (init_marks (init_with g n tree)) (init_marks tree)
-  init_alike g n (Value value) = (expr_alike g n value)
+  init_alike g n (Expression operand) = (expr_alike g n operand)
   init_alike g n (Braced braces) = (braces_alike g n braces)
 
   pub braces_alike : (g : Rewriting) (n : ℕ) (tree : BracesTree) → Alike (braces_marks (braces_with g n tree)) (braces_marks tree)

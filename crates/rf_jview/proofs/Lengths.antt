@@ -64,5 +64,5 @@ pub base_as_many : (base : TypeBaseTree) → AsMany (base_marks base) (base_yiel
 base_as_many (Prim tok) = one none
 base_as_many (Named name) = tname_as_many name
 
-pub type_as_many : (sort : TypeUseTree) → AsMany (type_marks sort) (type_yield sort)
-type_as_many sort = both (base_as_many sort.base) (each (dims_yield sort.dims))
+pub type_as_many : (used_type : TypeUseTree) → AsMany (type_marks used_type) (type_yield used_type)
+type_as_many used_type = both (base_as_many used_type.base) (each (dims_yield used_type.dims))

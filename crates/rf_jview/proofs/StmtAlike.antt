@@ -3,7 +3,7 @@ use Rattle.std.proofs.Common.{ℕ, suc, ◌+◌, List, [], ◌∷◌, ◌++◌, 
 use Rattle.rf_jtree.specs.declared.tokens.Tok.{Tok}
 use Rattle.rf_jtree.specs.ExprTrees.{ExprTree, ExprsTree, expr_yield, exprs_yield}
 use Rattle.rf_jtree.specs.NameTrees.{ManyTree, NameTree, TypeUseTree, ModTree, name_yield, type_yield, mods_yield, dims_yield, option_yield, tok_yield}
-use Rattle.rf_jtree.specs.StmtTrees.{VarTree, LocalTree, ForFirstTree, StmtTree, Block, Empty, Label, Value, If, While, Do, For, Each, Switch, Jump, Return, Throw, Sync, Assert, Try}
+use Rattle.rf_jtree.specs.StmtTrees.{VarTree, LocalTree, ForFirstTree, StmtTree, Block, Empty, Label, Expression, If, While, Do, For, Each, Switch, Jump, Return, Throw, Sync, Assert, Try}
 use Rattle.rf_jtree.specs.StmtTrees.{BlockTree, Braces, StmtsTree, NoStmts, Stmts, OtherTree, NoOther, Other, GroupTree, Group, GroupsTree, NoGroups, Groups, CatchTree, Catch, CatchesTree, NoCatches, Catches, LastTree, NoLast, Last}
 use Rattle.rf_jtree.specs.StmtTrees.{var_yield, first_yield, stmt_yield, block_yield, group_yield, catch_yield, catches_yield}
 use Rattle.rf_jview.specs.declared.marks.Mark.{Mark}
@@ -46,10 +46,10 @@ locals_alike g n back vars =
 
 pub local_alike : (g : Rewriting) (n back : ℕ) (local : LocalTree) → Alike (local_marks back (local_with g n local)) (local_marks back local)
 local_alike g n back local =
-    let sort = behind n (mods_yield local.mods) in
-    let vars = behind sort (type_yield local.sort) in
+    let used_type = behind n (mods_yield local.mods) in
+    let vars = behind used_type (type_yield local.used_type) in
     both (alike (mods_marks local.mods)) (thens (λ back. locals_marks back (vars_with g vars local.vars)) (λ back. locals_marks back local.vars)
-    (after back (mods_marks local.mods)) (type_alike g sort local.sort) (λ back. locals_alike g vars back local.vars))
+    (after back (mods_marks local.mods)) (type_alike g used_type local.used_type) (λ back. locals_alike g vars back local.vars))
 
 first_alike : (g : Rewriting) (n back : ℕ) (first : ForFirstTree) → Alike (first_marks back (first_with g n first)) (first_marks back first)
 first_alike g n back (ForFirstTree.Local local) = local_alike g n back local
@@ -68,10 +68,10 @@ for_head_alike g n first n2 test n3 last =
 ahead_then : {news olds : List Mark} → Alike news olds → Alike (m.Ahead (2 + counted news) ∷ m.Plain ∷ news) (m.Ahead (2 + counted olds) ∷ m.Plain ∷ olds)
 ahead_then same = record { equal = ap (λ marks. m.Ahead (2 + length marks) ∷ m.Plain ∷ marks) same.equal }
 
-each_head_alike : (g : Rewriting) (n : ℕ) (mods : List ModTree) (sort : TypeUseTree) (n2 : ℕ) (over : ExprTree)
-    → Alike (each_head_marks mods (type_with g n sort) (expr_with g n2 over)) (each_head_marks mods sort over)
-each_head_alike g n mods sort n2 over =
-    plain (plain (both (alike (mods_marks mods)) (both (type_alike g n sort) (ahead_then (expr_alike g n2 over)))))
+each_head_alike : (g : Rewriting) (n : ℕ) (mods : List ModTree) (used_type : TypeUseTree) (n2 : ℕ) (over : ExprTree)
+    → Alike (each_head_marks mods (type_with g n used_type) (expr_with g n2 over)) (each_head_marks mods used_type over)
+each_head_alike g n mods used_type n2 over =
+    plain (plain (both (alike (mods_marks mods)) (both (type_alike g n used_type) (ahead_then (expr_alike g n2 over)))))
 
 catch_head_alike : (g : Rewriting) (n : ℕ) (fixed : Option Tok) (name : NameTree)
     → Alike (catch_head_marks fixed (type_name_marks (g.written n name))) (catch_head_marks fixed (type_name_marks name))
@@ -84,18 +84,18 @@ mutual
   stmt_alike g n back (Empty semi) = plain (alike [])
   stmt_alike g n back (StmtTree.Local local semi) = both (local_alike g n back local) (alike (m.Plain ∷ []))
   stmt_alike g n back (Label id colon body) = plain (plain (stmt_alike g (suc (suc n)) (back + 1 + 1) body))
-  stmt_alike g n back (Value value semi) = both (expr_alike g n value) (plain (alike []))
+  stmt_alike g n back (Expression expression semi) = both (expr_alike g n expression) (plain (alike []))
   stmt_alike g n back (If word left test right then other) = thens (λ back. stmt_marks back (stmt_with g (suc (behind (suc (suc n)) (expr_yield test))) then) ++ other_marks (after back (stmt_marks back (stmt_with g (suc (behind (suc (suc n)) (expr_yield test))) then))) (other_with g (behind (suc (behind (suc (suc n)) (expr_yield test))) (stmt_yield then)) other))
       (λ back. stmt_marks back then ++ other_marks (after back (stmt_marks back then)) other) back (head_alike g (suc (suc n)) test)
       (λ back. thens (λ back. other_marks back (other_with g (behind (suc (behind (suc (suc n)) (expr_yield test))) (stmt_yield then)) other)) (λ back. other_marks back other) back (stmt_alike g (suc (behind (suc (suc n)) (expr_yield test))) back then) (λ back. other_alike g (behind (suc (behind (suc (suc n)) (expr_yield test))) (stmt_yield then)) back other))
   stmt_alike g n back (While word left test right body) = thens (λ back. stmt_marks back (stmt_with g (suc (behind (suc (suc n)) (expr_yield test))) body)) (λ back. stmt_marks back body) back (head_alike g (suc (suc n)) test) (λ back. stmt_alike g (suc (behind (suc (suc n)) (expr_yield test))) back body)
   stmt_alike g n back (Do word body until left test right semi) = plain (both (stmt_alike g (suc n) (back + 1) body) (both (head_alike g (suc (suc (behind (suc n) (stmt_yield body)))) test) (alike (m.Plain ∷ []))))
   stmt_alike g n back (For word left first semi1 test semi2 last right body) = opened_alike o.Block (thens (λ back. stmt_marks back (stmt_with g (suc (behind (suc (behind (suc (behind (suc (suc n)) (first_yield first))) (option_yield expr_yield test))) (exprs_yield last))) body)) (λ back. stmt_marks back body) 1 (for_head_alike g (suc (suc n)) first (suc (behind (suc (suc n)) (first_yield first))) test (suc (behind (suc (behind (suc (suc n)) (first_yield first))) (option_yield expr_yield test))) last) (λ back. stmt_alike g (suc (behind (suc (behind (suc (behind (suc (suc n)) (first_yield first))) (option_yield expr_yield test))) (exprs_yield last))) back body))
-  stmt_alike g n back (Each word left mods sort id colon over right body) = both (each_head_alike g (behind (suc (suc n)) (mods_yield mods)) mods sort (suc (suc (behind (behind (suc (suc n)) (mods_yield mods)) (type_yield sort)))) over) (opened_alike o.Block (stmt_alike g (suc (behind (suc (suc (behind (behind (suc (suc n)) (mods_yield mods)) (type_yield sort)))) (expr_yield over))) 1 body))
+  stmt_alike g n back (Each word left mods used_type id colon over right body) = both (each_head_alike g (behind (suc (suc n)) (mods_yield mods)) mods used_type (suc (suc (behind (behind (suc (suc n)) (mods_yield mods)) (type_yield used_type)))) over) (opened_alike o.Block (stmt_alike g (suc (behind (suc (suc (behind (behind (suc (suc n)) (mods_yield mods)) (type_yield used_type)))) (expr_yield over))) 1 body))
   stmt_alike g n back (Switch word left on right brace groups end) = both (head_alike g (suc (suc n)) on) (opened_alike o.Block (both (groups_alike g (suc (suc (behind (suc (suc n)) (expr_yield on)))) 1 groups) (alike (m.Plain ∷ []))))
   stmt_alike g n back (Jump word label semi) = plain (both (alike (plains (option_yield tok_yield label))) (plain (alike [])))
-  stmt_alike g n back (Return word value semi) = plain (both (optional_alike expr_marks (expr_with g) (expr_alike g) (suc n) value) (plain (alike [])))
-  stmt_alike g n back (Throw word value semi) = plain (both (expr_alike g (suc n) value) (plain (alike [])))
+  stmt_alike g n back (Return word expression semi) = plain (both (optional_alike expr_marks (expr_with g) (expr_alike g) (suc n) expression) (plain (alike [])))
+  stmt_alike g n back (Throw word expression semi) = plain (both (expr_alike g (suc n) expression) (plain (alike [])))
   stmt_alike g n back (Sync word left on right body) = both (head_alike g (suc (suc n)) on) (block_alike g (suc (behind (suc (suc n)) (expr_yield on))) o.Block body)
   stmt_alike g n back (Assert word test message semi) = plain (both (expr_alike g (suc n) test) (both (optional_alike (behind_marks expr_marks) (behind_with (expr_with g)) (behind_alike expr_marks (expr_with g) (expr_alike g)) (behind (suc n) (expr_yield test)) message) (plain (alike []))))
   stmt_alike g n back (Try word body catches last) = plain (both (block_alike g (suc n) o.Block body) (both (catches_alike g (behind (suc n) (block_yield body)) catches) (last_alike g (behind (behind (suc n) (block_yield body)) (catches_yield catches)) last)))
@@ -112,8 +112,8 @@ mutual
   other_alike g n back (Other word stmt) = plain (stmt_alike g (suc n) (back + 1) stmt)
 
   pub group_alike : (g : Rewriting) (n : ℕ) (back : ℕ) (tree : GroupTree) → Alike (group_marks back (group_with g n tree)) (group_marks back tree)
-  group_alike g n back (Group word value colon body) = plain (thens (λ back. m.Plain ∷ stmts_marks (back + 1) (stmts_with g (suc (behind (suc n) (option_yield expr_yield value))) body)) (λ back. m.Plain ∷ stmts_marks (back + 1) body) (back + 1)
-      (optional_alike expr_marks (expr_with g) (expr_alike g) (suc n) value) (λ back. plain (stmts_alike g (suc (behind (suc n) (option_yield expr_yield value))) (back + 1) body)))
+  group_alike g n back (Group word expression colon body) = plain (thens (λ back. m.Plain ∷ stmts_marks (back + 1) (stmts_with g (suc (behind (suc n) (option_yield expr_yield expression))) body)) (λ back. m.Plain ∷ stmts_marks (back + 1) body) (back + 1)
+      (optional_alike expr_marks (expr_with g) (expr_alike g) (suc n) expression) (λ back. plain (stmts_alike g (suc (behind (suc n) (option_yield expr_yield expression))) (back + 1) body)))
 
   pub groups_alike : (g : Rewriting) (n : ℕ) (back : ℕ) (tree : GroupsTree) → Alike (groups_marks back (groups_with g n tree)) (groups_marks back tree)
   groups_alike g n back NoGroups = alike []

@@ -3,7 +3,7 @@ use Rattle.std.proofs.Common.{ℕ, ◌+◌, List, [], ◌∷◌, ◌++◌, Optio
 use Rattle.rf_jtree.specs.declared.tokens.Tok.{Tok}
 use Rattle.rf_jtree.specs.ExprTrees.{ExprTree, ExprsTree, expr_yield, exprs_yield, init_yield}
 use Rattle.rf_jtree.specs.NameTrees.{ManyTree, NameTree, TypeUseTree, ModTree, name_yield, type_yield, mods_yield, dims_yield, option_yield, behind_yield, tok_yield, many_yield}
-use Rattle.rf_jtree.specs.StmtTrees.{VarTree, LocalTree, ForFirstTree, StmtTree, Block, Empty, Label, Value, If, While, Do, For, Each, Switch, Jump, Return, Throw, Sync, Assert, Try}
+use Rattle.rf_jtree.specs.StmtTrees.{VarTree, LocalTree, ForFirstTree, StmtTree, Block, Empty, Label, Expression, If, While, Do, For, Each, Switch, Jump, Return, Throw, Sync, Assert, Try}
 use Rattle.rf_jtree.specs.StmtTrees.{BlockTree, Braces, StmtsTree, NoStmts, Stmts, OtherTree, NoOther, Other, GroupTree, Group, GroupsTree, NoGroups, Groups, CatchTree, Catch, CatchesTree, NoCatches, Catches, LastTree, NoLast, Last}
 use Rattle.rf_jtree.specs.StmtTrees.{var_yield, local_yield, first_yield, stmt_yield, block_yield, stmts_yield, other_yield, group_yield, groups_yield, catch_yield, catches_yield, last_yield}
 use Rattle.std.specs.List.{flat_map}
@@ -34,7 +34,7 @@ locals_as_many back vars = both (one (beginning_as_many vars.first)) (more_local
 pub local_as_many : (back : ℕ) (local : LocalTree) → AsMany (local_marks back local) (local_yield local)
 local_as_many back local =
     both (each (mods_yield local.mods))
-    (both (type_as_many local.sort) (locals_as_many (after (after back (mods_marks local.mods)) (type_marks local.sort)) local.vars))
+    (both (type_as_many local.used_type) (locals_as_many (after (after back (mods_marks local.mods)) (type_marks local.used_type)) local.vars))
 
 first_as_many : (back : ℕ) (first : ForFirstTree) → AsMany (first_marks back first) (first_yield first)
 first_as_many back (ForFirstTree.Local local) = local_as_many back local
@@ -55,13 +55,13 @@ for_head_as_many left semi1 semi2 right first test last {marks} same =
     (both (first_as_many 2 first) (one (regroup tests (m.Plain ∷ lasts) marks
     (both (optional expr_marks expr_yield expr_as_many test) (one (regroup (exprs_marks last) (m.Plain ∷ []) marks (both (exprs_as_many last) (one same)))))))))
 
-each_head_as_many : (word left id colon : Tok) (mods : List ModTree) (sort : TypeUseTree) (over : ExprTree) {marks : List Mark} {toks : List Tok}
+each_head_as_many : (word left id colon : Tok) (mods : List ModTree) (used_type : TypeUseTree) (over : ExprTree) {marks : List Mark} {toks : List Tok}
     → AsMany marks toks
-    → AsMany (each_head_marks mods sort over ++ marks) (word ∷ left ∷ (mods_yield mods ++ (type_yield sort ++ id ∷ colon ∷ (expr_yield over ++ toks))))
-each_head_as_many word left id colon mods sort over {marks} same =
+    → AsMany (each_head_marks mods used_type over ++ marks) (word ∷ left ∷ (mods_yield mods ++ (type_yield used_type ++ id ∷ colon ∷ (expr_yield over ++ toks))))
+each_head_as_many word left id colon mods used_type over {marks} same =
     let overs = m.Ahead (2 + counted (expr_marks over)) ∷ m.Plain ∷ expr_marks over in
-    one (one (regroup (mods_marks mods) (type_marks sort ++ overs) marks
-    (both (each (mods_yield mods)) (regroup (type_marks sort) overs marks (both (type_as_many sort) (one (one (both (expr_as_many over) same))))))))
+    one (one (regroup (mods_marks mods) (type_marks used_type ++ overs) marks
+    (both (each (mods_yield mods)) (regroup (type_marks used_type) overs marks (both (type_as_many used_type) (one (one (both (expr_as_many over) same))))))))
 
 catch_head_as_many : (word left id right : Tok) (fixed : Option Tok) (name : NameTree) {marks : List Mark} {toks : List Tok} → AsMany marks toks
     → AsMany (catch_head_marks fixed (type_name_marks name) ++ marks) (word ∷ left ∷ (option_yield tok_yield fixed ++ (name_yield name ++ id ∷ right ∷ toks)))
@@ -77,16 +77,16 @@ mutual
   stmt_as_many back (Empty semi) = one none
   stmt_as_many back (StmtTree.Local local semi) = both (local_as_many back local) (one none)
   stmt_as_many back (Label id colon body) = one (one (stmt_as_many (back + 1 + 1) body))
-  stmt_as_many back (Value value semi) = both (expr_as_many value) (one none)
+  stmt_as_many back (Expression expression semi) = both (expr_as_many expression) (one none)
   stmt_as_many back (If word left test right then other) = head_as_many word left right test (both (stmt_as_many (after back (head_marks test)) then) (other_as_many (after (after back (head_marks test)) (stmt_marks (after back (head_marks test)) then)) other))
   stmt_as_many back (While word left test right body) = head_as_many word left right test (stmt_as_many (after back (head_marks test)) body)
   stmt_as_many back (Do word body until left test right semi) = one (both (stmt_as_many (back + 1) body) (head_as_many until left right test (one none)))
   stmt_as_many back (For word left first semi1 test semi2 last right body) = one (for_head_as_many left semi1 semi2 right first test last (stmt_as_many (after 1 (for_head_marks first test last)) body))
-  stmt_as_many back (Each word left mods sort id colon over right body) = each_head_as_many word left id colon mods sort over (one (stmt_as_many 1 body))
+  stmt_as_many back (Each word left mods used_type id colon over right body) = each_head_as_many word left id colon mods used_type over (one (stmt_as_many 1 body))
   stmt_as_many back (Switch word left on right brace groups end) = head_as_many word left right on (one (both (groups_as_many 1 groups) (one none)))
   stmt_as_many back (Jump word label semi) = one (both (each (option_yield tok_yield label)) (one none))
-  stmt_as_many back (Return word value semi) = one (both (optional expr_marks expr_yield expr_as_many value) (one none))
-  stmt_as_many back (Throw word value semi) = one (both (expr_as_many value) (one none))
+  stmt_as_many back (Return word expression semi) = one (both (optional expr_marks expr_yield expr_as_many expression) (one none))
+  stmt_as_many back (Throw word expression semi) = one (both (expr_as_many expression) (one none))
   stmt_as_many back (Sync word left on right body) = head_as_many word left right on (block_as_many o.Block body)
   stmt_as_many back (Assert word test message semi) = one (both (expr_as_many test) (both (optional (behind_marks expr_marks) (behind_yield expr_yield) (λ part. one (expr_as_many part.1)) message) (one none)))
   stmt_as_many back (Try word body catches last) = one (both (block_as_many o.Block body) (both (catches_as_many catches) (last_as_many last)))
@@ -103,7 +103,7 @@ mutual
   other_as_many back (Other word stmt) = one (stmt_as_many (back + 1) stmt)
 
   pub group_as_many : (back : ℕ) (tree : GroupTree) → AsMany (group_marks back tree) (group_yield tree)
-  group_as_many back (Group word value colon body) = one (both (optional expr_marks expr_yield expr_as_many value) (one (stmts_as_many (after (back + 1) (option_marks expr_marks value) + 1) body)))
+  group_as_many back (Group word expression colon body) = one (both (optional expr_marks expr_yield expr_as_many expression) (one (stmts_as_many (after (back + 1) (option_marks expr_marks expression) + 1) body)))
 
   pub groups_as_many : (back : ℕ) (tree : GroupsTree) → AsMany (groups_marks back tree) (groups_yield tree)
   groups_as_many back NoGroups = none

@@ -2,7 +2,7 @@
 use Rattle.std.proofs.Common.{ℕ, suc}
 use Rattle.rf_jtree.specs.ExprTrees.{expr_yield, exprs_yield, init_yield}
 use Rattle.rf_jtree.specs.NameTrees.{ManyTree, name_yield, type_yield, mods_yield, dims_yield, option_yield, behind_yield, tok_yield, many_yield}
-use Rattle.rf_jtree.specs.StmtTrees.{VarTree, LocalTree, ForFirstTree, StmtTree, Block, Empty, Label, Value, If, While, Do, For, Each, Switch, Jump, Return, Throw, Sync, Assert, Try}
+use Rattle.rf_jtree.specs.StmtTrees.{VarTree, LocalTree, ForFirstTree, StmtTree, Block, Empty, Label, Expression, If, While, Do, For, Each, Switch, Jump, Return, Throw, Sync, Assert, Try}
 use Rattle.rf_jtree.specs.StmtTrees.{BlockTree, Braces, StmtsTree, NoStmts, Stmts, OtherTree, NoOther, Other, GroupTree, Group, GroupsTree, NoGroups, Groups, CatchTree, Catch, CatchesTree, NoCatches, Catches, LastTree, NoLast, Last}
 use Rattle.rf_jtree.specs.StmtTrees.{var_yield, local_yield, first_yield, stmt_yield, block_yield, stmts_yield, other_yield, group_yield, groups_yield, catch_yield, catches_yield, last_yield}
 use Rattle.rf_jview.specs.ExprWith.{expr_with, init_with}
@@ -23,8 +23,8 @@ vars_tokens g n vars = many_tokens var_yield (var_with g) (var_tokens g) n vars
 pub local_tokens : (g : Rewriting) (n : ℕ) (local : LocalTree) → Rewritten g n (local_yield local) (local_yield (local_with g n local))
 local_tokens g n local =
     joined (same (mods_yield local.mods))
-    (joined (type_tokens g (behind n (mods_yield local.mods)) local.sort)
-    (vars_tokens g (behind (behind n (mods_yield local.mods)) (type_yield local.sort)) local.vars))
+    (joined (type_tokens g (behind n (mods_yield local.mods)) local.used_type)
+    (vars_tokens g (behind (behind n (mods_yield local.mods)) (type_yield local.used_type)) local.vars))
 
 first_tokens : (g : Rewriting) (n : ℕ) (first : ForFirstTree) → Rewritten g n (first_yield first) (first_yield (first_with g n first))
 first_tokens g n (ForFirstTree.Local local) = local_tokens g n local
@@ -36,16 +36,16 @@ mutual
   stmt_tokens g n (Empty semi) = kept_then semi (none _)
   stmt_tokens g n (StmtTree.Local local semi) = joined (local_tokens g n local) (kept_then semi (none _))
   stmt_tokens g n (Label id colon body) = kept_then id (kept_then colon ((stmt_tokens g (suc (suc n)) body)))
-  stmt_tokens g n (Value value semi) = joined (expr_tokens g n value) (kept_then semi (none _))
+  stmt_tokens g n (Expression expression semi) = joined (expr_tokens g n expression) (kept_then semi (none _))
   stmt_tokens g n (If word left test right then other) = kept_then word (kept_then left (joined (expr_tokens g (suc (suc n)) test) (kept_then right (joined (stmt_tokens g (suc (behind (suc (suc n)) (expr_yield test))) then) ((other_tokens g (behind (suc (behind (suc (suc n)) (expr_yield test))) (stmt_yield then)) other))))))
   stmt_tokens g n (While word left test right body) = kept_then word (kept_then left (joined (expr_tokens g (suc (suc n)) test) (kept_then right ((stmt_tokens g (suc (behind (suc (suc n)) (expr_yield test))) body)))))
   stmt_tokens g n (Do word body until left test right semi) = kept_then word (joined (stmt_tokens g (suc n) body) (kept_then until (kept_then left (joined (expr_tokens g (suc (suc (behind (suc n) (stmt_yield body)))) test) (kept_then right (kept_then semi (none _)))))))
   stmt_tokens g n (For word left first semi1 test semi2 last right body) = kept_then word (kept_then left (joined (first_tokens g (suc (suc n)) first) (kept_then semi1 (joined (optional_tokens expr_yield (expr_with g) (expr_tokens g) (suc (behind (suc (suc n)) (first_yield first))) test) (kept_then semi2 (joined (exprs_tokens g (suc (behind (suc (behind (suc (suc n)) (first_yield first))) (option_yield expr_yield test))) last) (kept_then right ((stmt_tokens g (suc (behind (suc (behind (suc (behind (suc (suc n)) (first_yield first))) (option_yield expr_yield test))) (exprs_yield last))) body)))))))))
-  stmt_tokens g n (Each word left mods sort id colon over right body) = kept_then word (kept_then left (joined (same (mods_yield mods)) (joined (type_tokens g (behind (suc (suc n)) (mods_yield mods)) sort) (text_then id (kept_then colon (joined (expr_tokens g (suc (suc (behind (behind (suc (suc n)) (mods_yield mods)) (type_yield sort)))) over) (kept_then right ((stmt_tokens g (suc (behind (suc (suc (behind (behind (suc (suc n)) (mods_yield mods)) (type_yield sort)))) (expr_yield over))) body)))))))))
+  stmt_tokens g n (Each word left mods used_type id colon over right body) = kept_then word (kept_then left (joined (same (mods_yield mods)) (joined (type_tokens g (behind (suc (suc n)) (mods_yield mods)) used_type) (text_then id (kept_then colon (joined (expr_tokens g (suc (suc (behind (behind (suc (suc n)) (mods_yield mods)) (type_yield used_type)))) over) (kept_then right ((stmt_tokens g (suc (behind (suc (suc (behind (behind (suc (suc n)) (mods_yield mods)) (type_yield used_type)))) (expr_yield over))) body)))))))))
   stmt_tokens g n (Switch word left on right brace groups end) = kept_then word (kept_then left (joined (expr_tokens g (suc (suc n)) on) (kept_then right (kept_then brace (joined (groups_tokens g (suc (suc (behind (suc (suc n)) (expr_yield on)))) groups) (kept_then end (none _)))))))
   stmt_tokens g n (Jump word label semi) = kept_then word (joined (same (option_yield tok_yield label)) (kept_then semi (none _)))
-  stmt_tokens g n (Return word value semi) = kept_then word (joined (optional_tokens expr_yield (expr_with g) (expr_tokens g) (suc n) value) (kept_then semi (none _)))
-  stmt_tokens g n (Throw word value semi) = kept_then word (joined (expr_tokens g (suc n) value) (kept_then semi (none _)))
+  stmt_tokens g n (Return word expression semi) = kept_then word (joined (optional_tokens expr_yield (expr_with g) (expr_tokens g) (suc n) expression) (kept_then semi (none _)))
+  stmt_tokens g n (Throw word expression semi) = kept_then word (joined (expr_tokens g (suc n) expression) (kept_then semi (none _)))
   stmt_tokens g n (Sync word left on right body) = kept_then word (kept_then left (joined (expr_tokens g (suc (suc n)) on) (kept_then right ((block_tokens g (suc (behind (suc (suc n)) (expr_yield on))) body)))))
   stmt_tokens g n (Assert word test message semi) = kept_then word (joined (expr_tokens g (suc n) test) (joined (optional_tokens (behind_yield expr_yield) (behind_with (expr_with g)) (behind_tokens expr_yield (expr_with g) (expr_tokens g)) (behind (suc n) (expr_yield test)) message) (kept_then semi (none _))))
   stmt_tokens g n (Try word body catches last) = kept_then word (joined (block_tokens g (suc n) body) (joined (catches_tokens g (behind (suc n) (block_yield body)) catches) ((last_tokens g (behind (behind (suc n) (block_yield body)) (catches_yield catches)) last))))
@@ -62,7 +62,7 @@ mutual
   other_tokens g n (Other word stmt) = kept_then word ((stmt_tokens g (suc n) stmt))
 
   pub group_tokens : (g : Rewriting) (n : ℕ) (tree : GroupTree) → Rewritten g n (group_yield tree) (group_yield (group_with g n tree))
-  group_tokens g n (Group word value colon body) = kept_then word (joined (optional_tokens expr_yield (expr_with g) (expr_tokens g) (suc n) value) (kept_then colon ((stmts_tokens g (suc (behind (suc n) (option_yield expr_yield value))) body))))
+  group_tokens g n (Group word expression colon body) = kept_then word (joined (optional_tokens expr_yield (expr_with g) (expr_tokens g) (suc n) expression) (kept_then colon ((stmts_tokens g (suc (behind (suc n) (option_yield expr_yield expression))) body))))
 
   pub groups_tokens : (g : Rewriting) (n : ℕ) (tree : GroupsTree) → Rewritten g n (groups_yield tree) (groups_yield (groups_with g n tree))
   groups_tokens g n NoGroups = none n

@@ -53,5 +53,5 @@ pub base_tokens : (g : Rewriting) (n : ℕ) (base : TypeBaseTree) → Rewritten 
 base_tokens g n (Prim tok) = kept n tok
 base_tokens g n (Named name) = type_name n name
 
-pub type_tokens : (g : Rewriting) (n : ℕ) (sort : TypeUseTree) → Rewritten g n (type_yield sort) (type_yield (type_with g n sort))
-type_tokens g n sort = joined (base_tokens g n sort.base) (same (dims_yield sort.dims))
+pub type_tokens : (g : Rewriting) (n : ℕ) (used_type : TypeUseTree) → Rewritten g n (type_yield used_type) (type_yield (type_with g n used_type))
+type_tokens g n used_type = joined (base_tokens g n used_type.base) (same (dims_yield used_type.dims))

@@ -3,7 +3,7 @@ use Rattle.std.specs.Prelude.{ℕ, ◌+◌, List, [], ◌∷◌, ◌++◌, Optio
 use Rattle.std.specs.List.{flat_map, list_any}
 use Rattle.rf_jtree.specs.declared.keyword_names.TheConstants.{CLASS}
 use Rattle.rf_jtree.specs.declared.tokens.Tok.{Tok}
-use Rattle.rf_jtree.specs.DeclTrees.{ParamTree, CtorCallTree, RetTree, Void, Value, BodyTree, Block, MemberTree, Init, Ctor, Method, Field, TypeDeclTree, ImportTree, UnitTree, package_yield}
+use Rattle.rf_jtree.specs.DeclTrees.{ParamTree, CtorCallTree, RetTree, Void, Typed, BodyTree, Block, MemberTree, Init, Ctor, Method, Field, TypeDeclTree, ImportTree, UnitTree, package_yield}
 use Rattle.rf_jtree.specs.Kinds.{is_key_of}
 use Rattle.rf_jtree.specs.NameTrees.{ManyTree, NameTree, option_yield, tok_yield, pair_yield, name_yield}
 use Rattle.rf_jtree.specs.StmtTrees.{VarTree, StmtsTree}
@@ -24,8 +24,8 @@ names_marks names = option_marks (behind_marks (many_marks type_name_marks)) nam
 -- Parameters are declared in the block that begins with their `(` (JLS 8.4.1).
 abbrev pub param_marks : ℕ → ParamTree → List Mark
 param_marks back param =
-    mods_marks param.mods ++ (type_marks param.sort
-    ++ m.Local (after (after back (mods_marks param.mods)) (type_marks param.sort)) ∷ dims_marks param.dims)
+    mods_marks param.mods ++ (type_marks param.used_type
+    ++ m.Local (after (after back (mods_marks param.mods)) (type_marks param.used_type)) ∷ dims_marks param.dims)
 
 abbrev pub more_params_marks : ℕ → List (Tok × ParamTree) → List Mark
 more_params_marks back [] = []
@@ -54,7 +54,7 @@ ctor_body_marks call body =
 -- the result of a method, and its body (JLS 8.4.5, 8.4.7)
 abbrev pub ret_marks : RetTree → List Mark
 ret_marks (Void word) = m.Plain ∷ []
-ret_marks (Value sort) = type_marks sort
+ret_marks (Typed used_type) = type_marks used_type
 
 abbrev pub body_marks : BodyTree → List Mark
 body_marks (Block block) = block_marks o.Block block
@@ -79,7 +79,7 @@ member_marks (Ctor mods id params throws left call body right) =
     mods_marks mods ++ m.Ctor ∷ callable_marks params.list throws (ctor_body_marks call body)
 member_marks (Method mods ret id params throws body) =
     mods_marks mods ++ (ret_marks ret ++ m.Method ∷ callable_marks params.list throws (body_marks body))
-member_marks (Field mods sort vars semi) = mods_marks mods ++ (type_marks sort ++ (fields_marks vars ++ m.Plain ∷ []))
+member_marks (Field mods used_type vars semi) = mods_marks mods ++ (type_marks used_type ++ (fields_marks vars ++ m.Plain ∷ []))
 
 -- A list of members has the marks of each in its turn, wherever the member stands.
 abbrev pub members_marks : List MemberTree → List Mark

@@ -2,7 +2,7 @@
 use Rattle.std.specs.Prelude.{ℕ, suc, List, Option, Some, None}
 use Rattle.std.specs.List.{flat_map}
 use Rattle.rf_jtree.specs.declared.tokens.Tok.{Tok}
-use Rattle.rf_jtree.specs.DeclTrees.{ParamTree, ParamsTree, CtorCallTree, RetTree, Void, Value, BodyTree, Block, MemberTree, Init, Ctor, Method, Field, TypeDeclTree, ImportTree, UnitTree}
+use Rattle.rf_jtree.specs.DeclTrees.{ParamTree, ParamsTree, CtorCallTree, RetTree, Void, Typed, BodyTree, Block, MemberTree, Init, Ctor, Method, Field, TypeDeclTree, ImportTree, UnitTree}
 use Rattle.rf_jtree.specs.DeclTrees.{names_yield, param_yield, params_yield, ctor_call_yield, ret_yield, member_yield, import_yield, package_yield}
 use Rattle.rf_jtree.specs.NameTrees.{ManyTree, NameTree, name_yield, type_yield, mods_yield, tok_yield, option_yield}
 use Rattle.rf_jview.specs.ExprWith.{args_with}
@@ -15,8 +15,8 @@ names_with g n names = option_with (behind_with (many_with name_yield g.written)
 abbrev pub param_with : Rewriting → ℕ → ParamTree → ParamTree
 param_with g n param = record {
   mods = param.mods;
-  sort = type_with g (behind n (mods_yield param.mods)) param.sort;
-  id = retext g (behind (behind n (mods_yield param.mods)) (type_yield param.sort)) param.id;
+  used_type = type_with g (behind n (mods_yield param.mods)) param.used_type;
+  id = retext g (behind (behind n (mods_yield param.mods)) (type_yield param.used_type)) param.id;
   dims = param.dims;
 }
 
@@ -28,7 +28,7 @@ ctor_call_with g n call = record { word = call.word; args = args_with g (suc n) 
 
 abbrev pub ret_with : Rewriting → ℕ → RetTree → RetTree
 ret_with g n (Void word) = Void word
-ret_with g n (Value sort) = Value (type_with g n sort)
+ret_with g n (Typed used_type) = Typed (type_with g n used_type)
 
 abbrev pub body_with : Rewriting → ℕ → BodyTree → BodyTree
 body_with g n (Block block) = Block (block_with g n block)
@@ -39,7 +39,7 @@ member_with g n (MemberTree.Semi semi) = MemberTree.Semi semi
 member_with g n (Init word body) = Init word (block_with g (behind n (option_yield tok_yield word)) body)
 member_with g n (Ctor mods id params throws left call body right) = Ctor mods (retext g (behind n (mods_yield mods)) id) (params_with g (suc (behind n (mods_yield mods))) params) (names_with g (behind (suc (behind n (mods_yield mods))) (params_yield params)) throws) left (option_with (ctor_call_with g) (suc (behind (behind (suc (behind n (mods_yield mods))) (params_yield params)) (names_yield throws))) call) (stmts_with g (behind (suc (behind (behind (suc (behind n (mods_yield mods))) (params_yield params)) (names_yield throws))) (option_yield ctor_call_yield call)) body) right
 member_with g n (Method mods ret id params throws body) = Method mods (ret_with g (behind n (mods_yield mods)) ret) (retext g (behind (behind n (mods_yield mods)) (ret_yield ret)) id) (params_with g (suc (behind (behind n (mods_yield mods)) (ret_yield ret))) params) (names_with g (behind (suc (behind (behind n (mods_yield mods)) (ret_yield ret))) (params_yield params)) throws) (body_with g (behind (behind (suc (behind (behind n (mods_yield mods)) (ret_yield ret))) (params_yield params)) (names_yield throws)) body)
-member_with g n (Field mods sort vars semi) = Field mods (type_with g (behind n (mods_yield mods)) sort) (vars_with g (behind (behind n (mods_yield mods)) (type_yield sort)) vars) semi
+member_with g n (Field mods used_type vars semi) = Field mods (type_with g (behind n (mods_yield mods)) used_type) (vars_with g (behind (behind n (mods_yield mods)) (type_yield used_type)) vars) semi
 
 abbrev pub members_with : Rewriting → ℕ → List MemberTree → List MemberTree
 members_with g n members = list_with member_yield (member_with g) n members

@@ -33,7 +33,7 @@ abbrev pub dims_marks : Dims → List Mark
 dims_marks dims = plains (dims_yield dims)
 
 abbrev pub type_marks : TypeUseTree → List Mark
-type_marks sort = base_marks sort.base ++ dims_marks sort.dims
+type_marks used_type = base_marks used_type.base ++ dims_marks used_type.dims
 
 -- Nothing stands in modifiers: the annotations of the language's own aren't resolved (JLS 9.6.3).
 abbrev pub mods_marks : List ModTree → List Mark

@@ -54,4 +54,4 @@ base_with g n (Prim tok) = Prim tok
 base_with g n (Named name) = Named (g.written n name)
 
 abbrev pub type_with : Rewriting → ℕ → TypeUseTree → TypeUseTree
-type_with g n sort = record { base = base_with g n sort.base; dims = sort.dims }
+type_with g n used_type = record { base = base_with g n used_type.base; dims = used_type.dims }

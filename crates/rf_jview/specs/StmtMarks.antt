@@ -3,7 +3,7 @@ use Rattle.std.specs.Prelude.{ℕ, ◌+◌, List, [], ◌∷◌, ◌++◌, Optio
 use Rattle.rf_jtree.specs.declared.tokens.Tok.{Tok}
 use Rattle.rf_jtree.specs.ExprTrees.{ExprTree, ExprsTree}
 use Rattle.rf_jtree.specs.NameTrees.{ManyTree, TypeUseTree, ModTree, option_yield, tok_yield}
-use Rattle.rf_jtree.specs.StmtTrees.{VarTree, LocalTree, ForFirstTree, StmtTree, Block, Empty, Label, Value, If, While, Do, For, Each, Switch, Jump, Return, Throw, Sync, Assert, Try}
+use Rattle.rf_jtree.specs.StmtTrees.{VarTree, LocalTree, ForFirstTree, StmtTree, Block, Empty, Label, Expression, If, While, Do, For, Each, Switch, Jump, Return, Throw, Sync, Assert, Try}
 use Rattle.rf_jtree.specs.StmtTrees.{BlockTree, Braces, StmtsTree, NoStmts, Stmts, OtherTree, NoOther, Other, GroupTree, Group, GroupsTree, NoGroups, Groups, CatchTree, Catch, CatchesTree, NoCatches, Catches, LastTree, NoLast, Last}
 use Rattle.rf_jview.specs.declared.marks.Mark.{Mark}
 use Rattle.rf_jview.specs.declared.marks.Mark.TheVariants as m
@@ -31,7 +31,7 @@ locals_marks back vars = local_var_marks back vars.first ++ more_locals_marks (a
 
 abbrev pub local_marks : ℕ → LocalTree → List Mark
 local_marks back local =
-    mods_marks local.mods ++ (type_marks local.sort ++ locals_marks (after (after back (mods_marks local.mods)) (type_marks local.sort)) local.vars)
+    mods_marks local.mods ++ (type_marks local.used_type ++ locals_marks (after (after back (mods_marks local.mods)) (type_marks local.used_type)) local.vars)
 
 abbrev pub first_marks : ℕ → ForFirstTree → List Mark
 first_marks back (ForFirstTree.Local local) = local_marks back local
@@ -51,8 +51,8 @@ abbrev pub over_marks : ExprTree → List Mark
 over_marks over = m.Ahead (2 + counted (expr_marks over)) ∷ m.Plain ∷ expr_marks over
 
 abbrev pub each_head_marks : List ModTree → TypeUseTree → ExprTree → List Mark
-each_head_marks mods sort over =
-    m.Plain ∷ m.Plain ∷ (mods_marks mods ++ (type_marks sort ++ over_marks over))
+each_head_marks mods used_type over =
+    m.Plain ∷ m.Plain ∷ (mods_marks mods ++ (type_marks used_type ++ over_marks over))
 
 -- `catch (T x)`, the block of whose variable begins behind it (JLS 14.20)
 abbrev pub catch_head_marks : Option Tok → List Mark → List Mark
@@ -66,7 +66,7 @@ abbrev mutual
   stmt_marks back (Empty semi) = m.Plain ∷ []
   stmt_marks back (StmtTree.Local local semi) = local_marks back local ++ m.Plain ∷ []
   stmt_marks back (Label id colon body) = m.Plain ∷ m.Plain ∷ stmt_marks (back + 1 + 1) body
-  stmt_marks back (Value value semi) = expr_marks value ++ m.Plain ∷ []
+  stmt_marks back (Expression expression semi) = expr_marks expression ++ m.Plain ∷ []
   stmt_marks back (If word left test right then other) =
       head_marks test ++ (stmt_marks (after back (head_marks test)) then
       ++ other_marks (after (after back (head_marks test)) (stmt_marks (after back (head_marks test)) then)) other)
@@ -74,11 +74,11 @@ abbrev mutual
   stmt_marks back (Do word body until left test right semi) = m.Plain ∷ (stmt_marks (back + 1) body ++ (head_marks test ++ m.Plain ∷ []))
   stmt_marks back (For word left first semi1 test semi2 last right body) =
       opens o.Block (for_head_marks first test last ++ stmt_marks (after 1 (for_head_marks first test last)) body)
-  stmt_marks back (Each word left mods sort id colon over right body) = each_head_marks mods sort over ++ opens o.Block (stmt_marks 1 body)
+  stmt_marks back (Each word left mods used_type id colon over right body) = each_head_marks mods used_type over ++ opens o.Block (stmt_marks 1 body)
   stmt_marks back (Switch word left on right brace groups end) = head_marks on ++ opens o.Block (groups_marks 1 groups ++ m.Plain ∷ [])
   stmt_marks back (Jump word label semi) = m.Plain ∷ (plains (option_yield tok_yield label) ++ m.Plain ∷ [])
-  stmt_marks back (Return word value semi) = m.Plain ∷ (option_marks expr_marks value ++ m.Plain ∷ [])
-  stmt_marks back (Throw word value semi) = m.Plain ∷ (expr_marks value ++ m.Plain ∷ [])
+  stmt_marks back (Return word expression semi) = m.Plain ∷ (option_marks expr_marks expression ++ m.Plain ∷ [])
+  stmt_marks back (Throw word expression semi) = m.Plain ∷ (expr_marks expression ++ m.Plain ∷ [])
   stmt_marks back (Sync word left on right body) = head_marks on ++ block_marks o.Block body
   stmt_marks back (Assert word test message semi) = m.Plain ∷ (expr_marks test ++ (option_marks (behind_marks expr_marks) message ++ m.Plain ∷ []))
   stmt_marks back (Try word body catches last) = m.Plain ∷ (block_marks o.Block body ++ (catches_marks catches ++ last_marks last))
@@ -95,8 +95,8 @@ abbrev mutual
   other_marks back (Other word stmt) = m.Plain ∷ stmt_marks (back + 1) stmt
 
   pub group_marks : ℕ → GroupTree → List Mark
-  group_marks back (Group word value colon body) =
-      m.Plain ∷ (option_marks expr_marks value ++ m.Plain ∷ stmts_marks (after (back + 1) (option_marks expr_marks value) + 1) body)
+  group_marks back (Group word expression colon body) =
+      m.Plain ∷ (option_marks expr_marks expression ++ m.Plain ∷ stmts_marks (after (back + 1) (option_marks expr_marks expression) + 1) body)
 
   pub groups_marks : ℕ → GroupsTree → List Mark
   groups_marks back NoGroups = []

@@ -7,7 +7,7 @@ ghost use Rattle.rf_jview.specs.ExprMarks.{expr_marks, on_marks, args_marks, sup
 
 use crate::accounts::{here, invoke, note, plain};
 use crate::mods::optional_tok;
-use crate::names::{base, dims, name, sort, type_name};
+use crate::names::{base, dims, name, type_name, type_use};
 use crate::{Account, Invocation, Mark};
 use rf_jtree::{Args, Braces, Expr, Init, Many, Tok};
 use rf_text::{List, Memory};
@@ -18,10 +18,10 @@ pub fn expr(tree: &Expr, account: &mut Account) -> Result<(), Memory>
     ensures { OnOk result (account.new ≡ noted account.old (expr_marks (expr_shown tree.now))) }
 {
     match tree {
-        Expr::Assign(left, _op, value) => {
+        Expr::Assign(left, _op, operand) => {
             expr(left, account)?;
             plain(account)?;
-            expr(value, account)
+            expr(operand, account)
         }
         Expr::Cond(test, _mark, then, _colon, other) => {
             expr(test, account)?;
@@ -35,44 +35,44 @@ pub fn expr(tree: &Expr, account: &mut Account) -> Result<(), Memory>
             plain(account)?;
             expr(right, account)
         }
-        Expr::Instance(value, _word, of) => {
-            expr(value, account)?;
+        Expr::Instance(operand, _word, of) => {
+            expr(operand, account)?;
             plain(account)?;
-            sort(of, account)
+            type_use(of, account)
         }
-        Expr::Unary(_op, value) => {
+        Expr::Unary(_op, operand) => {
             plain(account)?;
-            expr(value, account)
+            expr(operand, account)
         }
-        Expr::Cast(_left, to, _right, value) => {
+        Expr::Cast(_left, to, _right, operand) => {
             plain(account)?;
-            sort(to, account)?;
+            type_use(to, account)?;
             plain(account)?;
-            expr(value, account)
+            expr(operand, account)
         }
-        Expr::Postfix(value, _op) => {
-            expr(value, account)?;
+        Expr::Postfix(operand, _op) => {
+            expr(operand, account)?;
             plain(account)
         }
         Expr::Lit(_tok) => plain(account),
         Expr::This(_tok) => plain(account),
-        Expr::Paren(_left, value, _right) => {
+        Expr::Paren(_left, operand, _right) => {
             plain(account)?;
-            expr(value, account)?;
+            expr(operand, account)?;
             plain(account)
         }
         Expr::Name(named) => name(named, account),
         Expr::Call {
-            on: value,
+            on: operand,
             id: _id,
             args: list,
         } => {
-            on(value, account)?;
+            on(operand, account)?;
             plain(account)?;
             args(list, Invocation::Method, 1, account)
         }
-        Expr::Field(value, _dot, _id) => {
-            expr(value, account)?;
+        Expr::Field(operand, _dot, _id) => {
+            expr(operand, account)?;
             plain(account)?;
             note(account, Mark::FieldAccess)
         }
@@ -91,8 +91,8 @@ pub fn expr(tree: &Expr, account: &mut Account) -> Result<(), Memory>
             type_name(named, account)?;
             args(list, Invocation::Creation, 2, account)
         }
-        Expr::Index(value, _left, index, _right) => {
-            expr(value, account)?;
+        Expr::Index(operand, _left, index, _right) => {
+            expr(operand, account)?;
             plain(account)?;
             expr(index, account)?;
             plain(account)
@@ -123,13 +123,13 @@ pub fn expr(tree: &Expr, account: &mut Account) -> Result<(), Memory>
 }
 
 #[cycle(expr)]
-fn on(value: &Option<Box<(Box<Expr>, Tok)>>, account: &mut Account) -> Result<(), Memory>
-    ensures { OnOk result (account.new ≡ noted account.old (on_marks (on_shown value.now))) }
+fn on(operand: &Option<Box<(Box<Expr>, Tok)>>, account: &mut Account) -> Result<(), Memory>
+    ensures { OnOk result (account.new ≡ noted account.old (on_marks (on_shown operand.now))) }
 {
-    match value {
+    match operand {
         None => Ok(()),
-        Some(value) => {
-            expr(&value.0, account)?;
+        Some(operand) => {
+            expr(&operand.0, account)?;
             plain(account)
         }
     }
@@ -217,7 +217,7 @@ pub fn init(tree: &Init, account: &mut Account) -> Result<(), Memory>
     ensures { OnOk result (account.new ≡ noted account.old (init_marks (init_shown tree.now))) }
 {
     match tree {
-        Init::Value(value) => expr(value, account),
+        Init::Expression(operand) => expr(operand, account),
         Init::Braced(items) => braces(items, account),
     }
 }

@@ -14,7 +14,8 @@ use rf_text::Memory;
 
 /// The name of a type.
 pub fn type_name(name: &Name, account: &mut Account) -> Result<(), Memory>
-    ensures { OnOk result (account.new ≡ noted account.old (type_name_marks (name_shown name.now))) }
+    ensures { OnOk result
+        (account.new ≡ noted account.old (type_name_marks (name_shown name.now))) }
 {
     for _item in name.ids.rest.as_slice() {
         front(account)?;
@@ -77,9 +78,10 @@ pub fn dims(dims: &Dims, account: &mut Account) -> Result<(), Memory>
 }
 
 /// The use of a type.
-pub fn sort(sort: &TypeUse, account: &mut Account) -> Result<(), Memory>
-    ensures { OnOk result (account.new ≡ noted account.old (type_marks (type_shown sort.now))) }
+pub fn type_use(used_type: &TypeUse, account: &mut Account) -> Result<(), Memory>
+    ensures { OnOk result
+        (account.new ≡ noted account.old (type_marks (type_shown used_type.now))) }
 {
-    base(&sort.base, account)?;
-    dims(&sort.dims, account)
+    base(&used_type.base, account)?;
+    dims(&used_type.dims, account)
 }

@@ -15,30 +15,30 @@ use rf_jtree::{EachHead, Expr, ForHead, Head, Name, Tok};
 use rf_jview::accounts::{await_block, note, plain, point};
 use rf_jview::exprs::{expr, exprs};
 use rf_jview::mods::{modifiers, optional_tok};
-use rf_jview::names::{sort, type_name};
+use rf_jview::names::{type_name, type_use};
 use rf_jview::{Account, Mark};
 use rf_text::Memory;
 
 /// An expression, if it stands.
-pub fn optional_expr(value: &Option<Box<Expr>>, account: &mut Account) -> Result<(), Memory>
+pub fn optional_expr(expression: &Option<Box<Expr>>, account: &mut Account) -> Result<(), Memory>
     ensures { OnOk result (account.new ≡ noted account.old
-        (option_marks expr_marks (optional_expr_shown value.now))) }
+        (option_marks expr_marks (optional_expr_shown expression.now))) }
 {
-    match value {
+    match expression {
         None => Ok(()),
-        Some(value) => expr(value, account),
+        Some(expression) => expr(expression, account),
     }
 }
 
-fn message(value: &Option<(Tok, Box<Expr>)>, account: &mut Account) -> Result<(), Memory>
+fn message(expression: &Option<(Tok, Box<Expr>)>, account: &mut Account) -> Result<(), Memory>
     ensures { OnOk result (account.new ≡ noted account.old
-        (option_marks (behind_marks expr_marks) (option_map message_shown value.now))) }
+        (option_marks (behind_marks expr_marks) (option_map message_shown expression.now))) }
 {
-    match value {
+    match expression {
         None => Ok(()),
-        Some(value) => {
+        Some(expression) => {
             plain(account)?;
-            expr(&value.1, account)
+            expr(&expression.1, account)
         }
     }
 }
@@ -60,11 +60,11 @@ pub fn assertion(
 /// A keyword with an expression in parentheses.
 pub fn head(head: &Head, account: &mut Account) -> Result<(), Memory>
     ensures { OnOk result
-        (account.new ≡ noted account.old (head_marks (boxed_expr_shown head.now.value))) }
+        (account.new ≡ noted account.old (head_marks (boxed_expr_shown head.now.expression))) }
 {
     plain(account)?;
     plain(account)?;
-    expr(&head.value, account)?;
+    expr(&head.expression, account)?;
     plain(account)
 }
 
@@ -105,13 +105,13 @@ fn over(tree: &Expr, account: &mut Account) -> Result<(), Memory>
 /// `for (T x : e` without its `)`.
 pub fn each_head(head: &EachHead, account: &mut Account) -> Result<(), Memory>
     ensures { OnOk result (account.new ≡ noted account.old
-        (each_head_marks (mods_shown head.now.mods) (type_shown head.now.sort)
+        (each_head_marks (mods_shown head.now.mods) (type_shown head.now.used_type)
         (boxed_expr_shown head.now.over))) }
 {
     plain(account)?;
     plain(account)?;
     modifiers(&head.mods, account)?;
-    sort(&head.sort, account)?;
+    type_use(&head.used_type, account)?;
     over(&head.over, account)
 }
 

@@ -35,8 +35,8 @@ pub fn stmt(tree: &Stmt, account: &mut Account) -> Result<(), Memory>
             plain(account)?;
             stmt(body, account)
         }
-        Stmt::Value(value, _semi) => {
-            expr(value, account)?;
+        Stmt::Expression(expression, _semi) => {
+            expr(expression, account)?;
             plain(account)
         }
         Stmt::If {
@@ -82,14 +82,14 @@ pub fn stmt(tree: &Stmt, account: &mut Account) -> Result<(), Memory>
             optional_tok(label, account)?;
             plain(account)
         }
-        Stmt::Return(_word, value, _semi) => {
+        Stmt::Return(_word, expression, _semi) => {
             plain(account)?;
-            optional_expr(value, account)?;
+            optional_expr(expression, account)?;
             plain(account)
         }
-        Stmt::Throw(_word, value, _semi) => {
+        Stmt::Throw(_word, expression, _semi) => {
             plain(account)?;
-            expr(value, account)?;
+            expr(expression, account)?;
             plain(account)
         }
         Stmt::Sync { head: front, body } => {
@@ -196,7 +196,7 @@ fn group(part: &Group, account: &mut Account) -> Result<(), Memory>
         (group_marks (back_of account.old) (group_shown part.now))) }
 {
     plain(account)?;
-    optional_expr(&part.value, account)?;
+    optional_expr(&part.expression, account)?;
     plain(account)?;
     stmts(part.body.as_slice(), account)
 }

@@ -13,18 +13,18 @@ use rf_jview::Account;
 use rf_jview::accounts::{local, plain};
 use rf_jview::exprs::{exprs, init};
 use rf_jview::mods::modifiers;
-use rf_jview::names::{dims, sort};
+use rf_jview::names::{dims, type_use};
 use rf_text::{List, Memory};
 
-fn optional_init(value: &Option<(Tok, Init)>, account: &mut Account) -> Result<(), Memory>
+fn optional_init(expression: &Option<(Tok, Init)>, account: &mut Account) -> Result<(), Memory>
     ensures { OnOk result (account.new ≡ noted account.old
-        (option_marks (behind_marks init_marks) (option_map beginning_shown value.now))) }
+        (option_marks (behind_marks init_marks) (option_map beginning_shown expression.now))) }
 {
-    match value {
+    match expression {
         None => Ok(()),
-        Some(value) => {
+        Some(expression) => {
             plain(account)?;
-            init(&value.1, account)
+            init(&expression.1, account)
         }
     }
 }
@@ -70,7 +70,7 @@ pub fn local_declaration(declaration: &Local, account: &mut Account) -> Result<(
         (local_marks (back_of account.old) (local_shown declaration.now))) }
 {
     modifiers(&declaration.mods, account)?;
-    sort(&declaration.sort, account)?;
+    type_use(&declaration.used_type, account)?;
     locals(&declaration.vars, account)
 }
 

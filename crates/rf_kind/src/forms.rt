@@ -17,7 +17,8 @@ pub fn queries_fault<'a>(
     mut asks: &'a [Ask],
 ) -> Option<Fault<'a>>
     ensures { told_by result
-        ≡ first_of (ask_spec.query_fault (known_of program.entry) (levels scope.now)) asks.entry.now }
+        ≡ first_of (ask_spec.query_fault (known_of program.entry) (levels scope.now))
+        asks.entry.now }
 {
     while let [ask, rest @ ..] = asks {
         if let Some(fault) = query_fault(program, scope, ask) {

@@ -25,7 +25,8 @@ impl Model for Frames {
 
     ghost Value = { List Frame × ℕ };
 
-    ghost view = { λ frames. (reverse (take frames.count frames.items.items), length frames.items.items) };
+    ghost view = { λ frames.
+        (reverse (take frames.count frames.items.items), length frames.items.items) };
 
     ghost invariant = { λ frames. frames.count ≤ length frames.items.items };
 }

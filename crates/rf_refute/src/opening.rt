@@ -21,7 +21,8 @@ fn open_remove<S: Store>(vals: &Vals, store: &mut S, frames: &Frames, x: u32, v:
     requires alive { S.family store.old x v ≡ true }
     requires held { Held vals.now frames.now.1
         (S.first store.old) (S.removed store.old) frames.now.0 }
-    requires light { length frames.now.0 + alive_count vals.now (S.family store.old) ≤ frames.now.1 }
+    requires light { length frames.now.0 + alive_count vals.now (S.family store.old)
+        ≤ frames.now.1 }
     ensures first { S.first store.new ≡ S.first store.old }
     ensures opened { Opened vals.now frames.now.1 (S.first store.old)
         (without (S.family store.old) x v
@@ -37,7 +38,8 @@ fn open_split<S: Store>(vals: &Vals, store: &mut S, frames: &mut Frames, x: u32)
     requires some { values_from vals.now (S.family store.old) x 0 ≡ [] → ⊥ }
     requires held { Held vals.now frames.old.1
         (S.first store.old) (S.removed store.old) frames.old.0 }
-    requires light { length frames.old.0 + alive_count vals.now (S.family store.old) ≤ frames.old.1 }
+    requires light { length frames.old.0 + alive_count vals.now (S.family store.old)
+        ≤ frames.old.1 }
     ensures first { S.first store.new ≡ S.first store.old }
     ensures room { frames.new.1 ≡ frames.old.1 }
     ensures opened { Opened vals.now frames.old.1 (S.first store.old)

@@ -133,7 +133,8 @@ fn step_right_named(
     comp: Comp,
     name: Word,
 ) -> Result<AtomNext, Memory>
-    ensures { IfOk result (λ next. next ≡ spec.step_atom (shown tok.now) (Atom.RightNamed left comp name)) }
+    ensures { IfOk result (λ next. next
+        ≡ spec.step_atom (shown tok.now) (Atom.RightNamed left comp name)) }
 {
     match &tok.tok {
         Tok::Dot => Ok(Next::More(Atom::Part(Side::Right(left, comp), Part::Prop { elem: name }))),

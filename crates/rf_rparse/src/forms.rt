@@ -60,7 +60,8 @@ fn either(alloc: Global, operand: Boxed<RForm>, stack: &mut Stack) -> Result<Box
 
 /// An operand is complete, and the formula with it.
 fn whole(alloc: Global, operand: Boxed<RForm>, stack: &mut Stack) -> Result<Boxed<RForm>, Memory>
-    ensures { IfOk result (λ form. (form, stack.new) ≡ whole_of (either_of (done operand stack.old))) }
+    ensures { IfOk result (λ form. (form, stack.new)
+        ≡ whole_of (either_of (done operand stack.old))) }
 {
     let mut form = either(alloc, operand, stack)?;
     while let Some(left) = stack.take_implies()? {

@@ -58,7 +58,8 @@ fn step_kind(
     head: Head,
     name: Word,
 ) -> Result<Next<HeadState, Head>, Memory>
-    ensures { IfOk result (λ next. next ≡ spec.step_head (shown tok.now) (HeadState.Kind head name)) }
+    ensures { IfOk result (λ next. next
+        ≡ spec.step_head (shown tok.now) (HeadState.Kind head name)) }
 {
     let Head { mut vars, asks } = head;
     let Some(kind) = name_in(alloc, tok)? else {
@@ -104,7 +105,8 @@ fn step_in_args(
     head: Head,
     args: Args,
 ) -> Result<Next<HeadState, Head>, Memory>
-    ensures { IfOk result (λ next. next ≡ spec.step_head (shown tok.now) (HeadState.Args head args)) }
+    ensures { IfOk result (λ next. next
+        ≡ spec.step_head (shown tok.now) (HeadState.Args head args)) }
 {
     match step_args(alloc, tok, args)? {
         Next::More(args) => Ok(Next::More(HeadState::Args(head, args))),

@@ -5,10 +5,10 @@ use rf_rparse::{RuleErr, parse_rules};
 use std::alloc::Global;
 
 /// A file, and the program that it reads to.
-pub type Case = (&'static [u8], &'static [u8]);
+pub(crate) type Case = (&'static [u8], &'static [u8]);
 
 /// Whether a file reads to the program.
-pub fn reads(alloc: Global, text: &[u8], told: &[u8]) -> Result<bool, RuleErr> {
+pub(crate) fn reads(alloc: Global, text: &[u8], told: &[u8]) -> Result<bool, RuleErr> {
     if text.len() > 1000 {
         return Ok(false);
     }

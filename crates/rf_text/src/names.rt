@@ -41,7 +41,8 @@ fn place_of(texts: &IndexSet<Vec<u8>>, text: &[u8]) -> Option<usize>
 fn add(texts: &mut IndexSet<Vec<u8>>, alloc: Global, text: &[u8]) -> Result<usize, Memory>
     requires { ¬ Contains (texts_of texts.old.keys) text.now }
     ensures ok { IfOk result (λ place. place ≡ length (texts_of texts.old.keys)) }
-    ensures texts { IfOk result (λ _. texts_of texts.new.keys ≡ texts_of texts.old.keys ++ text.now ∷ []) }
+    ensures texts { IfOk result
+        (λ _. texts_of texts.new.keys ≡ texts_of texts.old.keys ++ text.now ∷ []) }
     ensures err { OnErr result (texts_of texts.new.keys ≡ texts_of texts.old.keys) }
 {
     let (place, _) = texts.insert_full(Vec::from_slice(alloc, text)?)?;

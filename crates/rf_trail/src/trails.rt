@@ -40,8 +40,10 @@ impl<const W: usize> Trail<W> {
     pub fn new(alloc: Global, d: &Doms) -> Result<Trail<W>, Memory>
         requires limit { W ≤ 1024 }
         requires sets { AreSets (64 * W) d.now.alive }
-        ensures family { IfOk result (λ trail. ⟦<Trail<W> as Alive>⟧.family trail ≡ among d.now.alive) }
-        ensures first { IfOk result (λ trail. ⟦<Trail<W> as Store>⟧.first trail ≡ among d.now.alive) }
+        ensures family { IfOk result
+            (λ trail. ⟦<Trail<W> as Alive>⟧.family trail ≡ among d.now.alive) }
+        ensures first { IfOk result
+            (λ trail. ⟦<Trail<W> as Store>⟧.first trail ≡ among d.now.alive) }
         ensures removed { IfOk result (λ trail. ⟦<Trail<W> as Store>⟧.removed trail ≡ []) }
     {
         let doms = sets_of(alloc, d.alive.as_slice())?;
@@ -99,7 +101,8 @@ impl<const W: usize> Store for Trail<W> {
 
     ghost removed = { λ trail. take trail.top trail.log.items };
 
-    ghost left_is = { λ trail. left_began (among trail.doms.items) (take trail.top trail.log.items) trail.gone };
+    ghost left_is = { λ trail.
+        left_began (among trail.doms.items) (take trail.top trail.log.items) trail.gone };
 
     fn remove(&mut self, x: u32, v: u16) {
         let dom = &mut self.doms[x as usize];

@@ -22,7 +22,7 @@ appends_kept (Some x) None new first a k = absurd a
 appends_kept (Some x) (Some y) None first a k = absurd k
 appends_kept (Some x) (Some y) (Some z) first a k = k ∙ a
 
--- the next bytes behind those that were taken
+-- the next bytes behind those that were received
 pub next_bytes : (n m : ℕ) (bytes : List ℕ) → take (n + m) bytes ≡ take n bytes ++ take m (drop n bytes)
 next_bytes n m bytes = sym (take-append-drop n (take (n + m) bytes)) ∙ ap (λ t. t ++ drop n (take (n + m) bytes)) (take-take n (n + m) bytes (omega arith)) ∙ ap (λ t. take n bytes ++ t) (drop-take n m bytes)
 

@@ -36,7 +36,7 @@ pub record KeepsCounts (old new : MemWorld) : Type 0 where
   pub reads : failed_reads new ≡ failed_reads old
   pub writes : failed_writes new ≡ failed_writes old
 
--- the bytes that a sink has taken
+-- the bytes that a sink has received
 abbrev pub sink_bytes : MemSink → List ℕ
 sink_bytes sink = sink.bytes
 
@@ -56,7 +56,7 @@ honest_files world = world.files
 abbrev pub absent_reads : HonestWorld → ℕ
 absent_reads world = world.read_faults
 
--- the bytes that an honest sink has taken
+-- the bytes that an honest sink has received
 abbrev pub honest_bytes : HonestSink → List ℕ
 honest_bytes sink = sink.bytes
 

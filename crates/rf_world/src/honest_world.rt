@@ -50,7 +50,8 @@ impl HonestWorld {
             (honest_files self.new
             ≡ put_file root.now path.now bytes.now (honest_files self.old)) }
         ensures written { OnOk result
-            (IsWritten root.now path.now bytes.now (honest_files self.old) (honest_files self.new)) }
+            (IsWritten root.now path.now bytes.now (honest_files self.old)
+            (honest_files self.new)) }
         ensures err { OnErr result (honest_files self.new ≡ honest_files self.old) }
         ensures same_reads { absent_reads self.new ≡ absent_reads self.old }
     {

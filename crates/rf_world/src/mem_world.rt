@@ -112,7 +112,8 @@ impl World for MemWorld {
         ensures ok { IfOk result
             (λ bytes. content root.now path.now (world_files self.old) ≡ Some bytes) }
         ensures failed { IsErrOf result WorldErr.Failed
-            ↔ (FailsNext (world_calls self.old) ⊎ (content root.now path.now (world_files self.old) ≡ None)) }
+            ↔ (FailsNext (world_calls self.old)
+            ⊎ (content root.now path.now (world_files self.old) ≡ None)) }
         ensures counts { CountsFaults WorldErr.Failed WorldErr.Memory
             (failed_reads self.old) (failed_reads self.new) result }
         ensures looks { LooksOnly self.old self.new }

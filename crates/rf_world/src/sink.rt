@@ -46,7 +46,7 @@ impl<T: Drop> From<AllocFailed<T>> for SinkErr {
     }
 }
 
-/// Where output goes, in order. A sink may tell the bytes that it has taken so far.
+/// Where output goes, in order. A sink may tell the bytes that it has received so far.
 /// It counts its calls, and those that failed, up to 2^64 - 1 each.
 pub trait Sink {
     /// The bytes so far, where the sink tells them.
@@ -61,9 +61,9 @@ pub trait Sink {
     /// Appends the bytes. After an `Err` a prefix of them has been appended.
     fn put(&mut self, alloc: Global, bytes: &[u8]) -> Result<(), SinkErr>
         ensures ok { OnOk result
-            (told self.new ≡ option_map (λ taken. taken ++ bytes.now) (told self.old)) }
+            (told self.new ≡ option_map (λ received. received ++ bytes.now) (told self.old)) }
         ensures err { OnErr result ((count : ℕ) × (told self.new
-            ≡ option_map (λ taken. taken ++ take count bytes.now) (told self.old))) }
+            ≡ option_map (λ received. received ++ take count bytes.now) (told self.old))) }
         ensures cause { HasCause SinkErr.Failed SinkErr.Memory
             (faults self.old) (faults self.new) result }
         ensures call { puts self.new ≡ next_count (puts self.old) };

@@ -1,4 +1,4 @@
-//! Readers and writers, taken whole: what stands over the opening of a file.
+//! Readers and writers, received whole: what stands over the opening of a file.
 ghost use Rattle.std.specs.Prelude.{◌≡◌, ◌≤◌, ℕ, IfOk, IfSome, OnOk, OnErr, length, take, vec_len};
 ghost use Rattle.std.specs.Io.KnownBytes.{Appends, Keeps};
 

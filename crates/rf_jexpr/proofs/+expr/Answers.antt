@@ -8,7 +8,7 @@ use Rattle.rf_jmake.specs.ExprMade.{boxed_shown}
 use Rattle.rf_jmake.specs.ExprMade.{exprs_of, inits_of}
 use Rattle.rf_jexpr.specs.PrimaryReads.{primary, suffix}
 use Rattle.rf_jexpr.specs.Reads.{and_then, or_else, optional, separated, begins, is_op}
-use Rattle.rf_jmake.specs.Tails.{operated, suffixed}
+use Rattle.rf_jmake.specs.Continuations.{operated, suffixed}
 use Rattle.rf_jexpr.proofs.FormLemmas.{more_exprs-depth, more_inits-depth}
 use Rattle.rf_jexpr.proofs.GrowthLemmas.{first-filling, next-filling, last-filling, first-hand, next-hand, last-hand}
 use Rattle.rf_jexpr.proofs.RoomLemmas.{expr-empty, expr-room, conditional-empty, conditional-room, binary-empty, binary-room, unary-room, init-room}
@@ -110,15 +110,15 @@ primary::primary-suffixes-init t c =
 
 pub primary::primary-suffixes-preserved : goal.primary::primary-suffixes-preserved
 primary::primary-suffixes-preserved t c =
-    let tried = rw c.in-Some.is at c.in_ok-tail.ensures in
+    let tried = rw c.in-Some.is at c.in_ok-continuation.ensures in
     let taken = rw tried at c.suffix.ensures.gives in
     let deeper = rw tried at c.suffix.ensures.deeper in
     let joined = c.in_ok-found-2.ensures in
-    next-hand _ _ _ _ _ _ _ _ (suffixed (boxed_shown c.suffixes.found.tree) c.in-Some.tail.tree) c.in-Some.tail.end c.in-Some.tail.depth _ _ _ c.suffixes.invariant taken.0 taken.1 taken.2 taken.3 taken.4 deeper joined.0 joined.1 joined.2
+    next-hand _ _ _ _ _ _ _ _ (suffixed (boxed_shown c.suffixes.found.tree) c.in-Some.continuation.tree) c.in-Some.continuation.end c.in-Some.continuation.depth _ _ _ c.suffixes.invariant taken.0 taken.1 taken.2 taken.3 taken.4 deeper joined.0 joined.1 joined.2
 
 pub primary::primary-returns : goal.primary::primary-returns
 primary::primary-returns t c =
-    let missing = rw c.in_default.is at c.in_ok-tail.ensures in
+    let missing = rw c.in_default.is at c.in_ok-continuation.ensures in
     let nothing = rw missing at c.suffix.ensures.gives in
     let hand = c.suffixes.invariant in
     (last-hand _ _ _ _ _ _ _ _ hand nothing, hand.forth, hand.within, hand.known, hand.shallow)
@@ -137,15 +137,15 @@ binary::binary-operators-init t c =
 
 pub binary::binary-operators-preserved : goal.binary::binary-operators-preserved
 binary::binary-operators-preserved t c =
-    let tried = rw c.in-Some.is at c.in_ok-tail.ensures in
+    let tried = rw c.in-Some.is at c.in_ok-continuation.ensures in
     let taken = rw tried at c.operator.ensures.gives in
     let deeper = rw tried at c.operator.ensures.deeper in
     let joined = c.in_ok-left-2.ensures in
-    next-hand _ _ _ _ _ _ _ _ (operated (boxed_shown c.operators.left.tree) c.in-Some.tail.tree) c.in-Some.tail.end c.in-Some.tail.depth _ _ _ c.operators.invariant taken.0 taken.1 taken.2 taken.3 (omega (arith, taken.4)) deeper joined.0 joined.1 joined.2
+    next-hand _ _ _ _ _ _ _ _ (operated (boxed_shown c.operators.left.tree) c.in-Some.continuation.tree) c.in-Some.continuation.end c.in-Some.continuation.depth _ _ _ c.operators.invariant taken.0 taken.1 taken.2 taken.3 (omega (arith, taken.4)) deeper joined.0 joined.1 joined.2
 
 pub binary::binary-returns : goal.binary::binary-returns
 binary::binary-returns t c =
-    let missing = rw c.in_default.is at c.in_ok-tail.ensures in
+    let missing = rw c.in_default.is at c.in_ok-continuation.ensures in
     let nothing = rw missing at c.operator.ensures.gives in
     let hand = c.operators.invariant in
     (last-hand _ _ _ _ _ _ _ _ hand nothing, hand.forth, hand.within, hand.known, hand.shallow)
@@ -162,7 +162,7 @@ top::conditional-returns-in_err-test t c = rw (conditional-room c.args.room (dro
 pub top::conditional-returns-in_default : goal.top::conditional-returns-in_default
 unfolding and_then or_else
 top::conditional-returns-in_default t c =
-    let missing = rw c.in_default.is at c.in_ok-tail.ensures in
+    let missing = rw c.in_default.is at c.in_ok-continuation.ensures in
     let nothing = rw missing at c.choice.ensures in
     let test = c.in_ok-test.ensures in
     (rw (conditional-room c.args.room (drop c.args.at c.args.t.now), test.0, nothing) refl, test.1, test.2, test.3, test.4)
@@ -170,7 +170,7 @@ top::conditional-returns-in_default t c =
 pub top::conditional-returns : goal.top::conditional-returns
 unfolding and_then or_else
 top::conditional-returns t c =
-    let tried = rw c.in-Some.is at c.in_ok-tail.ensures in
+    let tried = rw c.in-Some.is at c.in_ok-continuation.ensures in
     let taken = rw tried at c.choice.ensures in
     let test = c.in_ok-test.ensures in
     let tree = c.in_ok-tree.ensures in
@@ -186,7 +186,7 @@ top::expr-returns-in_err-left t c = rw (expr-room c.args.room (drop c.args.at c.
 pub top::expr-returns-in_default : goal.top::expr-returns-in_default
 unfolding and_then or_else
 top::expr-returns-in_default t c =
-    let missing = rw c.in_default.is at c.in_ok-tail.ensures in
+    let missing = rw c.in_default.is at c.in_ok-continuation.ensures in
     let nothing = rw missing at c.assignment.ensures in
     let left = c.in_ok-left.ensures in
     (rw (expr-room c.args.room (drop c.args.at c.args.t.now), left.0, nothing) refl, left.1, left.2, left.3, left.4)
@@ -194,7 +194,7 @@ top::expr-returns-in_default t c =
 pub top::expr-returns : goal.top::expr-returns
 unfolding and_then or_else
 top::expr-returns t c =
-    let tried = rw c.in-Some.is at c.in_ok-tail.ensures in
+    let tried = rw c.in-Some.is at c.in_ok-continuation.ensures in
     let taken = rw tried at c.assignment.ensures in
     let left = c.in_ok-left.ensures in
     let tree = c.in_ok-tree.ensures in
@@ -214,9 +214,9 @@ top::init-returns-then-is_at t c =
     let braced = c.in_ok-braced.ensures in
     (rw (init-room c.args.room (drop c.args.at c.args.t.now) (omega arith), brace, items.0, braced) refl, items.1, items.2, rw (braced, items.3) refl, omega (arith, items.4))
 
-pub top::init-returns-in_err-value : goal.top::init-returns-in_err-value
+pub top::init-returns-in_err-operand : goal.top::init-returns-in_err-operand
 unfolding and_then
-top::init-returns-in_err-value t c =
+top::init-returns-in_err-operand t c =
     let other : begins (is_op LEFT_BRACE) (drop c.args.at c.args.t.now) ≡ false = search rules in
     rw (init-room c.args.room (drop c.args.at c.args.t.now) (omega arith), other) (search rules)
 
@@ -224,9 +224,9 @@ pub top::init-returns : goal.top::init-returns
 unfolding and_then
 top::init-returns t c =
     let other : begins (is_op LEFT_BRACE) (drop c.args.at c.args.t.now) ≡ false = search rules in
-    let value = c.in_ok-value.ensures in
+    let operand = c.in_ok-operand.ensures in
     let tree = c.in_ok-tree.ensures in
-    (rw (init-room c.args.room (drop c.args.at c.args.t.now) (omega arith), other, value.0, tree) refl, value.1, value.2, rw tree value.3, value.4)
+    (rw (init-room c.args.room (drop c.args.at c.args.t.now) (omega arith), other, operand.0, tree) refl, operand.1, operand.2, rw tree operand.3, operand.4)
 
 pub unary::unary-returns-then-is_at : goal.unary::unary-returns-then-is_at
 unary::unary-returns-then-is_at t c =

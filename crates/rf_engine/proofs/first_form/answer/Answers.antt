@@ -1,6 +1,6 @@
 use Rattle.std.proofs.Common.{sym, ◌∙◌}
 use Rattle.std.proofs.lemmas.Bool.{false≢true}
-use Rattle.rf_engine.specs.Form.{form_seen}
+use Rattle.rf_engine.specs.FirstParts.{form_seen}
 use Rattle.rf_engine.proofs.AnswerLemmas.{refuses, renames}
 use Rattle.rf_engine.proofs.first_form.answer.Goals as goal
 

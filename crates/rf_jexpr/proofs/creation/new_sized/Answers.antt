@@ -6,6 +6,6 @@ use Rattle.rf_jexpr.proofs.creation.new_sized.Goals as goal
 pub returns : goal.returns
 unfolding and_then
 returns c =
-    let found = c.in_ok-ends.ensures in
+    let found = c.in_ok-bracket_pairs.ensures in
     let tree = c.in_ok-tree.ensures in
     (rw (found.0, tree) refl, found.1, found.2, rw (tree, sizes-depth, c.requires.known) refl, omega arith)

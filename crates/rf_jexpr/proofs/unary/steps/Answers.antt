@@ -13,7 +13,7 @@ steps-preserved c =
     let taken = rw tried at c.step.ensures.gives in
     let shallow = rw tried at c.step.ensures.shallow in
     let known = ap (λ (n : ℕ). n + 1) c.steps.invariant.known in
-    next-hand _ _ _ _ _ _ _ _ (Postfix (boxed_shown c.steps.value.tree) c.in-Some.op.item) c.in-Some.op.end (c.steps.value.depth + 1) _ _ _ c.steps.invariant taken.0 taken.1 taken.2 known (omega (arith, shallow)) (omega arith) c.in_ok-value.ensures.0 c.in_ok-value.ensures.1 c.in_ok-value.ensures.2
+    next-hand _ _ _ _ _ _ _ _ (Postfix (boxed_shown c.steps.operand.tree) c.in-Some.op.item) c.in-Some.op.end (c.steps.operand.depth + 1) _ _ _ c.steps.invariant taken.0 taken.1 taken.2 known (omega (arith, shallow)) (omega arith) c.in_ok-operand.ensures.0 c.in_ok-operand.ensures.1 c.in_ok-operand.ensures.2
 
 pub returns : goal.returns
 returns c =

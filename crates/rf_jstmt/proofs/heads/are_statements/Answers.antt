@@ -1,4 +1,4 @@
-use Rattle.rf_jstmt.proofs.ValueLemmas.{statements-exact}
+use Rattle.rf_jstmt.proofs.HeadLemmas.{statements-exact}
 use Rattle.rf_jstmt.proofs.heads.are_statements.Goals as goal
 
 pub returns : goal.returns

@@ -1,4 +1,4 @@
-use Rattle.rf_jstmt.proofs.ValueLemmas.{statement-exact}
+use Rattle.rf_jstmt.proofs.HeadLemmas.{statement-exact}
 use Rattle.rf_jstmt.proofs.heads.is_statement.Goals as goal
 
 pub returns : goal.returns

@@ -4,7 +4,7 @@ use Rattle.rf_jtree.specs.ExprTrees.{exprs_depth}
 use Rattle.rf_jexpr.specs.Reads.{begins}
 use Rattle.rf_jexpr.specs.Stops.{begins_expr}
 use Rattle.rf_jstmt.specs.StmtParts.{statement_exprs}
-use Rattle.rf_jstmt.proofs.ValueLemmas.{list-shown, exprs-none, exprs-refused, exprs-stand}
+use Rattle.rf_jstmt.proofs.HeadLemmas.{list-shown, exprs-none, exprs-refused, exprs-stand}
 use Rattle.rf_jstmt.proofs.heads.statement_exprs.Goals as goal
 
 pub returns-then-not-begins_expr_at : goal.returns-then-not-begins_expr_at

@@ -1,5 +1,5 @@
 use Rattle.std.proofs.Common.{◌∙◌, sym, drop}
-use Rattle.rf_jstmt.proofs.ValueLemmas.{jump-break, jump-continue}
+use Rattle.rf_jstmt.proofs.HeadLemmas.{jump-break, jump-continue}
 use Rattle.rf_jstmt.proofs.simple.jump_word.Goals as goal
 
 pub returns-then-is_at : goal.returns-then-is_at

@@ -9,11 +9,11 @@ pub returns-clause-gives : goal.returns-clause-gives
 unfolding var and_then
 returns-clause-gives c =
     let id = c.in_ok-id.ensures.gives in
-    let ends = c.in_ok-ends.ensures in
+    let pairs = c.in_ok-bracket_pairs.ensures in
     let found = c.in_ok-beginning.ensures in
     let shown = sym c.var_of.ensures in (
-      rw (id.0, ends.0, found.0) (ap (λ (v : VarTree). Some (v, drop c.in_ok-beginning.beginning.end c.args.t.now)) shown),
-      omega (arith, id.1, ends.1, found.1),
+      rw (id.0, pairs.0, found.0) (ap (λ (v : VarTree). Some (v, drop c.in_ok-beginning.beginning.end c.args.t.now)) shown),
+      omega (arith, id.1, pairs.1, found.1),
       found.2,
       found.3 ∙ ap var_depth shown,
       found.4,

@@ -1,5 +1,0 @@
-use Rattle.rf_jtree.proofs.ExprShows.{expr_shown-Assign}
-use Rattle.rf_jmake.proofs.tails.assigned.Goals as goal
-
-pub returns : goal.returns
-returns c = rw expr_shown-Assign at c.boxed.ensures

@@ -1,5 +1,0 @@
-use Rattle.rf_jtree.proofs.ExprShows.{expr_shown-Index}
-use Rattle.rf_jmake.proofs.tails.item_of.Goals as goal
-
-pub returns : goal.returns
-returns c = rw (expr_shown-Index, c.in_ok-end.ensures) at c.boxed.ensures
