@@ -183,16 +183,16 @@ decl_fits-Is decl h =
     let parts = both (is_visible decl.mods) (is_class decl || is_interface decl) h in
     record {
       visible = is_visible-Is decl.mods parts.0;
-      used_type = elim (or_true (is_class decl) (is_interface decl) parts.1) [ inl one ↦ inl (class-Is decl one) | inr other ↦ inr (interface-Is decl other) ];
+      kind = elim (or_true (is_class decl) (is_interface decl) parts.1) [ inl one ↦ inl (class-Is decl one) | inr other ↦ inr (interface-Is decl other) ];
     }
 
-sort_test : (decl : TypeDeclTree) → (IsClass decl) ⊎ (IsInterface decl) → IsTrue (is_class decl || is_interface decl)
-sort_test decl (inl one) = first_true (is_class decl) (is_interface decl) (Is-class decl one)
-sort_test decl (inr other) = second_true (is_class decl) (is_interface decl) (Is-interface decl other)
+kind_test : (decl : TypeDeclTree) → (IsClass decl) ⊎ (IsInterface decl) → IsTrue (is_class decl || is_interface decl)
+kind_test decl (inl one) = first_true (is_class decl) (is_interface decl) (Is-class decl one)
+kind_test decl (inr other) = second_true (is_class decl) (is_interface decl) (Is-interface decl other)
 
 pub Is-decl_fits : (decl : TypeDeclTree) → IsDecl decl → IsTrue (decl_fits decl)
 unfolding decl_fits
-Is-decl_fits decl fit = and_true _ _ (Is-is_visible decl.mods fit.visible) (sort_test decl fit.kind)
+Is-decl_fits decl fit = and_true _ _ (Is-is_visible decl.mods fit.visible) (kind_test decl fit.kind)
 
 not_empty-Is : {A : Type 0} (xs : List A) → IsTrue (not (is_empty xs)) → xs ≢ []
 unfolding is_empty

@@ -66,7 +66,7 @@ decl_tokens decl rest = simp append_assoc
 
 decl_differs : (key : Kw) → has_key MODIFIERS key ≡ false → has_key (CLASS ∷ INTERFACE ∷ []) key ≡ false → (decl : TypeDeclTree) (rest : List Tok) → DeclFits decl → begins (is_key key) (decl_yield decl ++ rest) ≡ false
 decl_differs key none no_type decl rest fit =
-    subst (λ toks. begins (is_key key) toks ≡ false) (sym (decl_tokens decl rest)) (mods_differ key none decl.mods _ fit.mods_fit.each (word_differs key no_type decl.word _ (type_word decl fit.used_type)))
+    subst (λ toks. begins (is_key key) toks ≡ false) (sym (decl_tokens decl rest)) (mods_differ key none decl.mods _ fit.mods_fit.each (word_differs key no_type decl.word _ (type_word decl fit.kind)))
 
 -- ---- the names in its head
 

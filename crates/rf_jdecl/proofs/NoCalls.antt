@@ -13,7 +13,7 @@ use Rattle.rf_jexpr.specs.Reads.{when, is_op, is_key, is_ident, begins}
 use Rattle.rf_jexpr.specs.Stops.{begins_expr}
 use Rattle.rf_jexpr.proofs.LoopLemmas.{chain-stops}
 use Rattle.rf_jexpr.proofs.Tools.{bind-Some, bind-None, else-None, when-false, if-true, if-false, token-at, token-other, IsKey-is_key}
-use Rattle.rf_jstmt.specs.StmtReads.{operand, stmt, block_stmt, no_stmts, with_stmt_room, stmt_parsers}
+use Rattle.rf_jstmt.specs.StmtReads.{expression_stmt, stmt, block_stmt, no_stmts, with_stmt_room, stmt_parsers}
 use Rattle.rf_jstmt.specs.StmtTests.{is_statement_expr}
 use Rattle.rf_jstmt.specs.VarReads.{marks_local, ends_before, begins_local, begins_label}
 use Rattle.rf_jdecl.proofs.ExactHeads.{no_type}
@@ -102,11 +102,11 @@ module _ (m : ℕ) (p : Parsers) (word left : Tok) (more : List Tok) (is : IsOp 
 abbrev pub CallsCtor : Tok → Type 0
 CallsCtor word = (IsKey THIS word) ⊎ (IsKey SUPER word)
 
-no_operand : (room : ℕ) (word left : Tok) (more : List Tok) → IsOp LEFT_PAREN left → CallsCtor word → operand (parsers room) (word ∷ left ∷ more) ≡ None
-unfolding operand parsers nothing with_room is_statement_expr
-no_operand zero word left more is calls = bind-None _ _ refl
-no_operand (suc m) word left more is (inl one) = bind-Some _ _ _ _ (this_alone m (parsers m) word left more is one) (bind-None _ _ (when-false _ _ refl))
-no_operand (suc m) word left more is (inr other) = bind-None _ _ (no_super m (parsers m) word left more is other)
+no_expression_stmt : (room : ℕ) (word left : Tok) (more : List Tok) → IsOp LEFT_PAREN left → CallsCtor word → expression_stmt (parsers room) (word ∷ left ∷ more) ≡ None
+unfolding expression_stmt parsers nothing with_room is_statement_expr
+no_expression_stmt zero word left more is calls = bind-None _ _ refl
+no_expression_stmt (suc m) word left more is (inl one) = bind-Some _ _ _ _ (this_alone m (parsers m) word left more is one) (bind-None _ _ (when-false _ _ refl))
+no_expression_stmt (suc m) word left more is (inr other) = bind-None _ _ (no_super m (parsers m) word left more is other)
 
 -- a word that is neither a type nor a label's name, and begins an expression
 record BeginsExpr (word : Tok) (toks : List Tok) : Type 0 where
@@ -124,4 +124,4 @@ unfolding stmt_parsers no_stmts with_stmt_room block_stmt stmt
 no_stmt zero word left more is calls = refl
 no_stmt (suc m) word left more is calls =
     let known = by_word word (left ∷ more) calls in
-    if-false _ _ _ known.no_local ∙ if-true _ _ _ known.is_expr ∙ if-false _ _ _ known.no_label ∙ no_operand m word left more is calls
+    if-false _ _ _ known.no_local ∙ if-true _ _ _ known.is_expr ∙ if-false _ _ _ known.no_label ∙ no_expression_stmt m word left more is calls

@@ -55,8 +55,8 @@ pub record GoodDecl (room : ℕ) (decl : TypeDeclTree) : Type 0 where
   pub fits : DeclFits decl
   pub shallow : list_depth member_depth decl.members ≤ room
 
-with_sort : (decl : TypeDeclTree) → HasParts decl → IsDecl decl → DeclFits decl
-with_sort decl parts is = record {
+with_kind : (decl : TypeDeclTree) → HasParts decl → IsDecl decl → DeclFits decl
+with_kind decl parts is = record {
   mods_fit = parts.mods_fit;
   visible = is.visible;
   kind = is.kind;
@@ -142,7 +142,7 @@ module _ (m : ℕ) (s : AreSoundStmts m (stmt_parsers m)) where
   type_decl-sound toks y h =
       step_part _ _ (any_decl m) toks _ y any_decl-sound h (λ decl a k.
       step_when (decl_fits decl.0) _ y k (λ fit same.
-      done (GoodDecl m) decl_yield toks decl.0 decl.1 y same (record { fits = with_sort decl.0 a.fits.fits (decl_fits-Is decl.0 fit); shallow = a.fits.shallow }) (at_last _ a.takes)))
+      done (GoodDecl m) decl_yield toks decl.0 decl.1 y same (record { fits = with_kind decl.0 a.fits.fits (decl_fits-Is decl.0 fit); shallow = a.fits.shallow }) (at_last _ a.takes)))
 
   front_unit-sound : IsSound (GoodUnit m) unit_yield (front_unit m)
   unfolding front_unit

@@ -23,7 +23,7 @@ use Rattle.rf_jexpr.proofs.First.{begins_first, expr_first-begins}
 use Rattle.rf_jexpr.proofs.StopLemmas.{weaker, false_or}
 use Rattle.rf_jexpr.proofs.Tools.{both, holds, fails, whether, missing, there, perhaps, bind-None, if-true, if-false, token-other, is_op-IsOp, is_key-IsKey, is_ident-IsIdent}
 use Rattle.rf_jstmt.specs.StmtParts.{StmtParsers}
-use Rattle.rf_jstmt.specs.StmtReads.{block_alone, empty, labeled, expression, if_stmt, while_stmt, do_stmt, for_stmt, switch_stmt, jumps, jump, return_stmt, throw_stmt, sync_stmt, assert_stmt, try_stmt, by_word, stmt, block_stmt}
+use Rattle.rf_jstmt.specs.StmtReads.{block_alone, empty, labeled, expression_stmt, if_stmt, while_stmt, do_stmt, for_stmt, switch_stmt, jumps, jump, return_stmt, throw_stmt, sync_stmt, assert_stmt, try_stmt, by_word, stmt, block_stmt}
 use Rattle.rf_jstmt.specs.StmtStops.{EndsStmts}
 use Rattle.rf_jstmt.specs.VarReads.{marks_local, ends_before, begins_local, begins_label}
 use Rattle.rf_jstmt.proofs.Declares.{ends_type, NoDeclaration, no_declaration}
@@ -137,7 +137,7 @@ module _ (p : Parsers) (s : StmtParsers) where
       first : IsTrue (begins_expr id)
       first = rw h refl
 
-  pub to_expression : (expr : ExprTree) (rest : List Tok) → ExprFits expr → IsStatementExpr expr → stmt p s (expr_yield expr ++ rest) ≡ expression p (expr_yield expr ++ rest)
+  pub to_expression : (expr : ExprTree) (rest : List Tok) → ExprFits expr → IsStatementExpr expr → stmt p s (expr_yield expr ++ rest) ≡ expression_stmt p (expr_yield expr ++ rest)
   unfolding stmt
   to_expression expr rest fit is = if-true _ _ _ (begins_with_expr expr rest fit) ∙ if-false _ _ _ (expr_no_label expr rest fit is)
 

@@ -17,7 +17,7 @@ use Rattle.rf_jexpr.proofs.SoundParts.{Good}
 use Rattle.rf_jexpr.proofs.StopLemmas.{stops_colon, stops_semicolon}
 use Rattle.rf_jexpr.proofs.Tools.{bind-Some, bind-None, if-true, if-false, when-true, token-at, token-other, optional-Some, optional-None, IsOp-is_op, IsKey-is_key, IsIdent-is_ident}
 use Rattle.rf_jstmt.specs.StmtParts.{StmtParsers}
-use Rattle.rf_jstmt.specs.StmtReads.{block_alone, empty, labeled, expression, other_part, other, if_stmt, while_stmt, do_stmt, jumps, jump, return_stmt, throw_stmt, sync_stmt, assert_stmt, stmt}
+use Rattle.rf_jstmt.specs.StmtReads.{block_alone, empty, labeled, expression_stmt, other_part, other, if_stmt, while_stmt, do_stmt, jumps, jump, return_stmt, throw_stmt, sync_stmt, assert_stmt, stmt}
 use Rattle.rf_jstmt.specs.StmtStops.{goes_on, other_goes_on, Over, may_go_on}
 use Rattle.rf_jstmt.specs.StmtTests.{is_statement_expr}
 use Rattle.rf_jstmt.proofs.Dispatch.{to_empty, to_label, to_expression, to_if, to_while, to_do, to_break, to_continue, to_return, to_throw, to_sync, to_assert}
@@ -85,7 +85,7 @@ module _ (m : ℕ) (p : Parsers) (s : StmtParsers) (exprs : AreExact m p) (stmts
       (bind-Some _ _ _ _ (stmts.stmt body rest (record { fits = fit.1; no_local = fit.0.no_local; shallow = omega arith }) over) refl))
 
   pub expression_stmt-exact : (found : ExprTree) (semi : Tok) → IsReadWhere (Expression found semi)
-  unfolding expression
+  unfolding expression_stmt
   expression_stmt-exact found semi rest fit shallow over =
       rw append_assoc
       (to_expression p s found (semi ∷ rest) fit.1 fit.0.statement

@@ -18,7 +18,7 @@ use Rattle.rf_jexpr.proofs.SoundNames.{token-sound, optional-sound}
 use Rattle.rf_jexpr.proofs.SoundParts.{Good, AreSound}
 use Rattle.rf_jexpr.proofs.Tools.{either_way, token_takes, is_op-IsOp, is_key-IsKey, is_ident-IsIdent}
 use Rattle.rf_jstmt.specs.StmtParts.{StmtParsers, block, optional_expr}
-use Rattle.rf_jstmt.specs.StmtReads.{block_alone, empty, labeled, expression, other_part, other, if_stmt, while_stmt, do_stmt, jumps, jump, return_stmt, throw_stmt, sync_stmt, assert_stmt, stmt}
+use Rattle.rf_jstmt.specs.StmtReads.{block_alone, empty, labeled, expression_stmt, other_part, other, if_stmt, while_stmt, do_stmt, jumps, jump, return_stmt, throw_stmt, sync_stmt, assert_stmt, stmt}
 use Rattle.rf_jstmt.specs.StmtTests.{is_statement_expr}
 use Rattle.rf_jstmt.proofs.SoundParts.{GoodPart, AreSoundStmts, block-sound, head_then, step_head, optional_expr-sound}
 use Rattle.rf_jmods.proofs.Steps.{step_tok, step_part, step_when, tok_then, part_then, at_last, tok_last, done, max_le, one_more, alone}
@@ -94,7 +94,7 @@ module _ (m : ℕ) (p : Parsers) (s : StmtParsers) (sound : AreSound m p) (sound
       (tok_then a.takes (tok_then b.takes (at_last _ c.takes))))))
 
   pub expression_stmt-sound : IsSound (GoodPart (suc m)) stmt_yield (expression_stmt p)
-  unfolding expression
+  unfolding expression_stmt
   expression_stmt-sound toks y h =
       step_part _ _ p.expr toks _ y sound.expr h (λ found a k.
       step_part _ _ (λ others. when (is_statement_expr found.0) (token (is_op SEMICOLON) others)) found.1 _ y (semi-sound found.0) k (λ semi b same.

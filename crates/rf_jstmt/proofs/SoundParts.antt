@@ -82,9 +82,9 @@ module _ (m : ℕ) (s : StmtParsers) (sound : AreSoundStmts m s) where
 
 pub record ReadsHead (room : ℕ) (key : Kw) (toks : List Tok) (found : Head) (rest : List Tok) : Type 0 where
   pub head : IsHead key found.word found.left found.right
-  pub fits : ExprFits found.value
-  pub shallow : expr_depth found.value ≤ room
-  pub takes : toks ≡ found.word ∷ found.left ∷ (expr_yield found.value ++ found.right ∷ rest)
+  pub fits : ExprFits found.expression
+  pub shallow : expr_depth found.expression ≤ room
+  pub takes : toks ≡ found.word ∷ found.left ∷ (expr_yield found.expression ++ found.right ∷ rest)
 
 pub head_then : {toks mid more rest : List Tok} (word left : Tok) (expression : ExprTree) (right : Tok) → toks ≡ word ∷ left ∷ (expr_yield expression ++ right ∷ mid) → Takes mid more rest → Takes toks (word ∷ left ∷ (expr_yield expression ++ right ∷ more)) rest
 head_then {mid = mid} word left expression right h k =
