@@ -1,0 +1,9 @@
+pub mod AnswerLemmas
+pub mod DemandLemmas
+pub mod FoundLemmas
+pub mod ListLemmas
+pub mod PackageLemmas
+pub mod PointLemmas
+pub mod RowLemmas
+pub mod TypeIdLemmas
+pub mod WordLemmas
