@@ -1,0 +1,10 @@
+mod ChoiceLemmas
+mod CutLemmas
+mod FormLemmas
+mod LineLemmas
+mod NumberLemmas
+mod OnceLemmas
+mod ReaderLemmas
+mod SortLemmas
+mod SpareLemmas
+mod TargetLemmas

@@ -1,0 +1,8 @@
+pub mod Choices
+pub mod Forms
+pub mod Numbers
+pub mod Opened
+pub mod Requests
+pub mod Sorts
+pub mod Targets
+pub mod Words
