@@ -1,2 +1,4 @@
 pub mod Indexing
 pub mod Leaving
+pub mod Deriving
+pub mod Walking
