@@ -1,0 +1,4 @@
+pub mod Answers
+pub mod Writes
+pub mod Ended
+pub mod Stands
